@@ -52,7 +52,7 @@ none-unsound (s ∷ ss) sound =
     ap (λ (v : Verdict). if not (is_sound v) then told_of s ∷ unsound_of ss else unsound_of ss) (All-head IsSoundByItself s ss sound) ∙ none-unsound ss (All-tail IsSoundByItself s ss sound)
 
 -- two results that are equal have equal sections
-sections_same : (ss ts : List SectionMeaning) → ◌≡◌ {A = Result (List SectionMeaning) Fault} (Ok ss) (Ok ts) → ss ≡ ts
+pub sections_same : (ss ts : List SectionMeaning) → ◌≡◌ {A = Result (List SectionMeaning) Fault} (Ok ss) (Ok ts) → ss ≡ ts
 sections_same ss ts h = cc
 
 -- what is found of the sections of an archive is sound

@@ -2,6 +2,7 @@
 use Rattle.std.proofs.Common.{◌≡◌, ℕ, List, ◌∷◌, [], refl, sym, ap, subst}
 use Rattle.std.specs.Prelude.{Ok}
 use Rattle.ix_store.specs.Store.{Blocks}
+use Rattle.ix_walk.specs.JobMeaning.{JobMeaning}
 use Rattle.ix_walk.specs.Once.{first_ones}
 use Rattle.ix_car.specs.Sections.{SectionMeaning, section_list, roots_of}
 use Rattle.ix_verify.specs.declared.file.Judged.{Judged}
@@ -13,8 +14,8 @@ use Rattle.ix_verify.specs.declared.found.Findings.{Findings}
 use Rattle.ix_verify.specs.declared.found.Scope.TheVariants.{Sections as OfSections, Graph as OfGraph}
 use Rattle.ix_verify.specs.Beside.{blocks_beside}
 use Rattle.ix_verify.specs.Counted.{IsJudgedOf, findings_of}
-use Rattle.ix_verify.specs.Found.{allow_none, store_of, IsReached, IsFoundBeside, IsFoundOf}
-use Rattle.ix_verify.specs.Walked.{IsReachedFrom, IsReachedFromNone}
+use Rattle.ix_verify.specs.Found.{allow_none, may_lack, store_of, IsReached, IsFoundBeside, IsFoundFor, IsFoundOf}
+use Rattle.ix_verify.specs.Walked.{IsReachedBy, IsReachedFrom, IsReachedFromNone}
 use Rattle.ix_verify.proofs.FileFaults.{reached-in, later-in}
 
 -- by the sections alone
@@ -43,3 +44,16 @@ module _ (copies : Copies) (allowed : AllowMissing) (others : List (List Section
             (subst (λ (roots : List (List ℕ)). IsReached allowed store roots most r.skips r.absent r.is_over_limit) (ap first_ones judged.roots) reached);
         later = later-in others copies b store later judged.sections stored judged.read;
       })
+
+-- and of a job in a store
+pub found-for : (allowed : AllowMissing) (store : Blocks) (job : JobMeaning) (b : List ℕ) (most : ℕ) (j : Judged) (f : Findings) (r : Reached) → IsJudgedOf b most j → f ≡ findings_of j r 0
+    → IsReachedBy (may_lack allowed (first_ones job.roots)) store job most r → IsFoundFor allowed store job b most f
+found-for allowed store job b most j f r judged is reached =
+    subst (λ (x : Findings). IsFoundFor allowed store job b most x) (sym is) (record {
+      sections = judged.sections;
+      read = judged.read;
+      count = judged.count;
+      unsound = judged.unsound;
+      reached = reached;
+      later = refl;
+    })

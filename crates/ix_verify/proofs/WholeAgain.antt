@@ -1,5 +1,5 @@
 -- The archive of everything below roots, of which nothing was skipped, has all that its roots call for.
-use Rattle.std.proofs.Common.{◌≡◌, ℕ, zero, suc, ◌+◌, ◌<◌, ◌≤◌, Bool, true, false, ◌&&◌, ◌||◌, List, [], ◌∷◌, ◌++◌, length, take, codes, refl, sym, ◌∙◌, ap, subst, arith, ltb}
+use Rattle.std.proofs.Common.{◌≡◌, ℕ, zero, suc, ◌+◌, ◌<◌, ◌≤◌, Bool, true, false, ◌&&◌, ◌||◌, List, [], ◌∷◌, ◌++◌, length, take, refl, sym, ◌∙◌, ap, subst, arith, ltb}
 use Rattle.std.specs.Prelude.{Option, Some, None, map, filter, not, if◌then◌else◌, bytes_eq, option_and_then}
 use Rattle.std.specs.List.{AllByRecursion, list_any}
 use Rattle.std.proofs.lemmas.List.{take_all}
@@ -16,7 +16,7 @@ use Rattle.ix_cbor.specs.Reading.{data_at}
 use Rattle.ix_selector.specs.Enters.{Path}
 use Rattle.ix_selector.specs.IsEntered.{is_entered}
 use Rattle.ix_selector.specs.Behind.{residual_at, same_residual}
-use Rattle.ix_selector.specs.Pattern.{everything}
+use Rattle.ix_selector.specs.Pattern.{Pattern, everything}
 use Rattle.ix_store.specs.Store.{Blocks, has_cid, with_block, block_of, bytes_by, is_dag_cbor}
 use Rattle.ix_walk.specs.JobMeaning.{JobMeaning}
 use Rattle.ix_walk.specs.Arrivals.{Arrival, Inside, when_some}
@@ -35,7 +35,7 @@ use Rattle.ix_car.specs.Sections.{SectionMeaning, with_sections}
 use Rattle.ix_archive.specs.Verified.{judged, verified, judged_visits}
 use Rattle.ix_archive.proofs.Numbers.{kept-verified}
 use Rattle.ix_verify.specs.Roots.{holder_of}
-use Rattle.ix_verify.specs.Found.{job_below, roots_job, skip_of, is_absent, skips_below}
+use Rattle.ix_verify.specs.Found.{job_below, verified_job, roots_job, skip_of, is_absent, skips_below}
 use Rattle.ix_verify.specs.Written.{section_where, sections_from, written_sections}
 
 -- ---- the store of an archive's sections
@@ -269,22 +269,26 @@ none-skipped lack store number n (x ∷ xs) h =
     let others = filter (λ d. not (passes d.verdict || is_absent lack d)) (map (judged store) (visits_from store number (n + 1) xs)) in
     ap (λ (b : Bool). map skip_of (if not (b || is_absent lack here) then here ∷ others else others)) h.0 ∙ none-skipped lack store number (n + 1) xs h.1
 
--- ---- the archive of everything below roots
+-- ---- the archive of what a selector enters below roots
 
-module _ (store : Blocks) (number : ℕ) (name : List ℕ) (limit : ℕ) (roots : List (List ℕ)) (short : length roots ≤ 64) (few : limit ≤ 4294967295)
-    (within : is_over_limit store (job_below name limit roots) ≡ false) (none : skips_of (judged_visits store number (job_below name limit roots)) ≡ []) where
+-- no more roots than a job may have are taken as they are
+pub as-they-are : (roots : List (List ℕ)) → length roots ≤ 64 → roots_job roots ≡ verified_job everything roots
+as-they-are roots short = ap (λ (t : Bool). verified_job everything (if t then roots else holder_of roots ∷ [])) (le-leb (length roots) 64 short)
+
+module _ (store : Blocks) (number : ℕ) (selector : Pattern) (name : List ℕ) (limit : ℕ) (roots : List (List ℕ)) (few : limit ≤ 4294967295)
+    (within : is_over_limit store (job_below selector name limit roots) ≡ false) (none : skips_of (judged_visits store number (job_below selector name limit roots)) ≡ []) where
   abbrev told : List Delivery
-  told = verified store number (job_below name limit roots)
+  told = verified store number (job_below selector name limit roots)
 
   abbrev met : List Arrival
-  met = arrivals_of store (job_below name limit roots)
+  met = arrivals_of store (job_below selector name limit roots)
 
   -- the store of the archive's sections
   abbrev kept_store : Blocks
   kept_store = with_sections [] (written_sections store roots told)
 
   pass-each : AllByRecursion (λ a. passes (verdict_of store a.cid) ≡ true) met
-  pass-each = all-pass store number 0 met (ap (λ (ds : List Delivery). map skip_of (filter (λ d. not (passes d.verdict)) ds)) (sym (kept-verified store number (job_below name limit roots) within)) ∙ none)
+  pass-each = all-pass store number 0 met (ap (λ (ds : List Delivery). map skip_of (filter (λ d. not (passes d.verdict)) ds)) (sym (kept-verified store number (job_below selector name limit roots) within)) ∙ none)
 
   same-at : (c : List ℕ) → passes (verdict_of store c) ≡ true → is_met met c ≡ true → (verdict_of kept_store c ≡ verdict_of store c) × (sound_value kept_store c ≡ sound_value store c)
   same-at c pass h =
@@ -300,33 +304,27 @@ module _ (store : Blocks) (number : ℕ) (name : List ℕ) (limit : ℕ) (roots 
   met-few : length met ≤ limit
   met-few = ltb-false limit (length met) within
 
-  -- the job that verifies, with the roots as they are
+  -- the job that verifies
   abbrev again : JobMeaning
-  again = job_below (codes "verify") 4294967295 roots
+  again = verified_job selector roots
 
   met-again : arrivals_of kept_store again ≡ met
   met-again =
-      let enters = is_entered everything in
-      let rest = residual_at everything in
+      let enters = is_entered selector in
+      let rest = residual_at selector in
       let starts = roots_from 0 roots in
       let same : once enters rest same_residual (sound_value kept_store) (suc limit) [] starts ≡ met =
       once-inside enters rest same_residual (sound_value store) (sound_value kept_store) (suc limit) [] starts
       (all-weaker (λ a. (verdict_of kept_store a.cid ≡ verdict_of store a.cid) × (sound_value kept_store a.cid ≡ sound_value store a.cid)) (λ a. sound_value kept_store a.cid ≡ sound_value store a.cid) (λ a h. h.1) met each-same) in
       once-enough enters rest same_residual (sound_value kept_store) (suc limit) (suc 4294967295) [] starts (omega (arith, few)) (omega (arith, met-few, ap length same)) ∙ same
 
-  -- no more roots than a job may have are taken as they are
-  as-they-are : roots_job roots ≡ again
-  as-they-are = ap (λ (t : Bool). job_below (codes "verify") 4294967295 (if t then roots else holder_of roots ∷ [])) (le-leb (length roots) 64 short)
-
-  pub finished : is_over_limit kept_store (roots_job roots) ≡ false
+  pub finished : is_over_limit kept_store (verified_job selector roots) ≡ false
   finished =
-      ap (is_over_limit kept_store) as-they-are
-      ∙ subst (λ (xs : List Arrival). ltb 4294967295 (length xs) ≡ false) (sym met-again) (le-ltb 4294967295 (length met) (le_trans met-few few))
+      subst (λ (xs : List Arrival). ltb 4294967295 (length xs) ≡ false) (sym met-again) (le-ltb 4294967295 (length met) (le_trans met-few few))
 
-  pub nothing-skipped : (lack : List ℕ → Bool) → skips_below lack kept_store (roots_job roots) ≡ []
+  pub nothing-skipped : (lack : List ℕ → Bool) → skips_below lack kept_store (verified_job selector roots) ≡ []
   nothing-skipped lack =
-      ap (skips_below lack kept_store) as-they-are
-      ∙ ap (λ (xs : List Arrival). told_among lack kept_store 0 0 (take 4294967295 xs)) met-again
+      ap (λ (xs : List Arrival). told_among lack kept_store 0 0 (take 4294967295 xs)) met-again
       ∙ ap (λ (xs : List Arrival). told_among lack kept_store 0 0 xs) (take_all 4294967295 met (le_trans met-few few))
       ∙ none-skipped lack kept_store 0 0 met
       (all-weaker (λ a. ((verdict_of kept_store a.cid ≡ verdict_of store a.cid) × (sound_value kept_store a.cid ≡ sound_value store a.cid)) × (passes (verdict_of store a.cid) ≡ true)) (λ a. passes (verdict_of kept_store a.cid) ≡ true)

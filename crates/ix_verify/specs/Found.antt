@@ -2,7 +2,7 @@
 use Rattle.std.specs.Prelude.{◌≡◌, ℕ, Bool, true, false, not, ◌&&◌, ◌||◌, ◌==◌, List, [], ◌∷◌, length, map, filter, flat_map, codes, bytes_eq, Ok}
 use Rattle.std.specs.List.{list_any}
 use Rattle.ix_cid.specs.Cid.{codec_of}
-use Rattle.ix_selector.specs.Pattern.{everything}
+use Rattle.ix_selector.specs.Pattern.{Pattern, everything}
 use Rattle.ix_walk.specs.JobMeaning.{JobMeaning}
 use Rattle.ix_store.specs.Store.{Blocks}
 use Rattle.ix_store.specs.Sound.{sound_copies, later_count}
@@ -41,13 +41,17 @@ told_of s = record { place = s.place; cid = s.cid; verdict = section_verdict s.c
 abbrev pub unsound_of : List SectionMeaning → List Unsound
 unsound_of sections = filter (λ u. not (is_sound u.verdict)) (map told_of sections)
 
--- the job of everything below roots, each CID gone into once
-abbrev pub job_below : List ℕ → ℕ → List (List ℕ) → JobMeaning
-job_below name limit roots = record { name = name; roots = roots; selector = everything; limit = limit; once = true }
+-- the job of what a selector enters below roots, each CID gone into once
+abbrev pub job_below : Pattern → List ℕ → ℕ → List (List ℕ) → JobMeaning
+job_below selector name limit roots = record { name = name; roots = roots; selector = selector; limit = limit; once = true }
 
--- the job of roots that are verified, however many, with the greatest limit
+-- the same as it is verified, with the greatest limit
+abbrev pub verified_job : Pattern → List (List ℕ) → JobMeaning
+verified_job selector roots = job_below selector (codes "verify") 4294967295 roots
+
+-- the job of everything below roots, however many
 abbrev pub roots_job : List (List ℕ) → JobMeaning
-roots_job roots = job_below (codes "verify") 4294967295 (few_roots roots)
+roots_job roots = verified_job everything (few_roots roots)
 
 -- the report on a visit whose verdict isn't good
 abbrev pub skip_of : Delivery → Skip
@@ -117,6 +121,16 @@ pub record IsFoundBeside (copies : Copies) (allowed : AllowMissing) (others : Li
   pub reached : IsReached allowed (store_of copies (sections ∷ others)) (roots_to_walk scope (roots_of b)) most f.skips f.absent f.is_over_limit
   pub later : f.later_count ≡ later_of copies (sections ∷ others)
 
+-- what is found of a file for a job over a store: of each section of the file by its own bytes, and on the walk of the job; later
+-- copies are not counted
+pub record IsFoundFor (allowed : AllowMissing) (store : Blocks) (job : JobMeaning) (b : List ℕ) (most : ℕ) (f : Findings) : Type 0 where
+  pub sections : List SectionMeaning
+  pub read : section_list b ≡ Ok sections
+  pub count : f.sections ≡ length sections
+  pub unsound : IsNoted section_finding most (unsound_of sections) f.unsound
+  pub reached : IsWalkOf (may_lack allowed (first_ones job.roots)) store job most f.skips f.absent f.is_over_limit
+  pub later : f.later_count ≡ 0
+
 -- no link may lead to a block that isn't there
 abbrev pub allow_none : AllowMissing
 allow_none = record { raw = false; dag_cbor = false }
@@ -148,3 +162,9 @@ HasSoundSections file = (most : ℕ) (found : Findings) → IsFoundOf file OfSec
 -- whatever is found of a file, with what its roots call for, it is sound
 abbrev pub IsSoundFile : List ℕ → Type 0
 IsSoundFile file = (most : ℕ) (found : Findings) → IsFoundOf file OfGraph most found → IsCalledSound found
+
+-- whatever is found of a file for a job over the store of the file's sections, it is sound
+abbrev pub IsSoundFileFor : JobMeaning → List ℕ → Type 0
+IsSoundFileFor job file =
+    (sections : List SectionMeaning) (most : ℕ) (found : Findings) → section_list file ≡ Ok sections
+    → IsFoundFor allow_none (store_of First (sections ∷ [])) job file most found → IsCalledSound found

@@ -3,6 +3,7 @@ use Rattle.std.specs.Prelude.{◌≡◌, ℕ, ◌≤◌, false, List, [], ◌∷
 use Rattle.ix_cid.specs.Cid.{parts_of, digest_of, hash_function_of}
 use Rattle.ix_cid.specs.declared.hash_function.HashFunction.{HashFunction}
 use Rattle.ix_cid.specs.declared.hash_function.HashFunction.TheVariants.{Identity}
+use Rattle.ix_selector.specs.Pattern.{Pattern, everything}
 use Rattle.ix_walk.specs.JobMeaning.{JobMeaning}
 use Rattle.ix_store.specs.Store.{Blocks, block_of}
 use Rattle.ix_store.specs.Sound.{AreSound}
@@ -25,7 +26,7 @@ use Rattle.ix_car.specs.Writing.{header_of}
 use Rattle.ix_car.specs.Sections.{SectionMeaning, section_list, roots_of, with_sections}
 use Rattle.ix_verify.specs.Judged.{section_verdict, IsSoundSection}
 use Rattle.ix_verify.specs.declared.found.Copies.TheVariants.{First, Sound as FirstSound}
-use Rattle.ix_verify.specs.Found.{with_files, copies_in, store_of, later_of, job_below, HasSoundSections, IsSoundFile}
+use Rattle.ix_verify.specs.Found.{with_files, copies_in, store_of, later_of, job_below, verified_job, HasSoundSections, IsSoundFile, IsSoundFileFor}
 use Rattle.ix_verify.specs.Restored.{HasReadableDifference, AreReadAs, IsRestoredByFiles}
 use Rattle.ix_verify.specs.Written.{sections_with, written_sections, IsArchivable, IsJudged, IsSoundByItself}
 
@@ -89,11 +90,21 @@ JobsHaveSoundSections =
 abbrev pub WholeArchivesAreSound : Type 0
 WholeArchivesAreSound =
     (store : Blocks) (number : ℕ) (name : List ℕ) (limit : ℕ) (roots : List (List ℕ))
-    → IsArchivable store roots (verified store number (job_below name limit roots))
+    → IsArchivable store roots (verified store number (job_below everything name limit roots))
     → first_ones roots ≡ roots → length roots ≤ 64
-    → limit ≤ 4294967295 → is_over_limit store (job_below name limit roots) ≡ false
-    → skips_of (judged_visits store number (job_below name limit roots)) ≡ []
-    → IsSoundFile (archive_of store number (job_below name limit roots))
+    → limit ≤ 4294967295 → is_over_limit store (job_below everything name limit roots) ≡ false
+    → skips_of (judged_visits store number (job_below everything name limit roots)) ≡ []
+    → IsSoundFile (archive_of store number (job_below everything name limit roots))
+
+-- where a job took what a selector enters below its roots, going into each CID once, within its limit and without a skip, its
+-- archive is sound for these roots and this selector
+abbrev pub SelectedArchivesAreSound : Type 0
+SelectedArchivesAreSound =
+    (store : Blocks) (number : ℕ) (selector : Pattern) (name : List ℕ) (limit : ℕ) (roots : List (List ℕ))
+    → IsArchivable store roots (verified store number (job_below selector name limit roots))
+    → limit ≤ 4294967295 → is_over_limit store (job_below selector name limit roots) ≡ false
+    → skips_of (judged_visits store number (job_below selector name limit roots)) ≡ []
+    → IsSoundFileFor (verified_job selector roots) (archive_of store number (job_below selector name limit roots))
 
 -- the store of files is that of their sections put end to end
 abbrev pub FilesAreEndToEnd : Type 0

@@ -58,8 +58,8 @@ impl CarBytes {
         }
     }
 
-    // Returns the bytes.
-    pub(crate) fn as_slice(&self) -> &[u8]
+    /// Returns the bytes.
+    pub fn as_slice(&self) -> &[u8]
         ensures { result.now ≡ self.now }
     {
         &self.file.as_slice()[self.start..]

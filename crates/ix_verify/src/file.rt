@@ -1,6 +1,6 @@
 //! Verifies files.
 
-ghost use Rattle.std.specs.Prelude.{◌≡◌, ◌+◌, ◌^◌, ◌<◌, ◌≤◌, map, length, IfOk, IfErr, OnOk};
+ghost use Rattle.std.specs.Prelude.{◌≡◌, ◌+◌, ◌^◌, ◌<◌, ◌≤◌, map, length, IfOk, IfErr, OnOk, MatchResult};
 ghost use Rattle.ix_car.specs.declared.fault.CarKind.TheVariants.{Memory};
 ghost use Rattle.ix_car.specs.Gives.{IsFaultOf};
 ghost use Rattle.ix_car.specs.SectionView.{section_of};
@@ -9,20 +9,21 @@ ghost use Rattle.ix_archive.specs.Archive.{is_sound};
 ghost use Rattle.ix_verify.specs.declared.found.Scope.TheVariants.{Sections as OfSections, Graph as OfGraph};
 ghost use Rattle.ix_verify.specs.Outcome.{section_finding};
 ghost use Rattle.ix_verify.specs.Noting.{NotesMore};
-ghost use Rattle.ix_verify.specs.Found.{unsound_of, IsFoundBeside, IsFoundOf, IsFileFault};
+ghost use Rattle.ix_verify.specs.Found.{unsound_of, IsFoundBeside, IsFoundFor, IsFoundOf, IsFileFault};
 ghost use Rattle.ix_verify.specs.Counted.{told_if, told_among, findings_of, IsJudgedOf, IsBatchAt, IsBatchFault};
 
 use crate::car_bytes::CarBytes;
-use crate::found::{Findings, Scope, Unsound};
+use crate::found::{AllowMissing, Findings, Scope, Unsound};
 use crate::noted::Noted;
 use crate::observer::{Observer, Unobserved};
 use crate::other_file::{Beside, load_beside};
-use crate::reach::{Reached, walk_roots};
+use crate::reach::{Reached, walk_given, walk_roots};
 use crate::section::verdicts_with_store;
 use ix_car::{CarFault, CarKind, Section, read_header, read_section};
 use ix_check::Verdict;
 use ix_cid::Cid;
 use ix_store::Store;
+use ix_walk::Job;
 use std::alloc::{AllocError, Global};
 use std::num::NonZeroUsize;
 use std::thread::Threads;
@@ -124,6 +125,54 @@ pub fn verify_beside<R: Threads + Sync, V: Observer>(
         observer,
     ) {
         Ok(reached) => Ok(judged.with(reached, later_count)),
+        Err(_) => Err(no_memory(0)),
+    }
+}
+
+/// A job that is walked in a store in place of everything below a file's roots, which of its links may lead to
+/// blocks that aren't there, and the observer.
+#[derive(Drop)]
+pub struct JobWalk<'a, V> {
+    /// The store, as `load_beside` makes it of the file and of others.
+    pub store: &'a Store,
+    pub job: &'a Job,
+    pub allowed: AllowMissing,
+    pub observer: &'a V,
+}
+
+/// Verifies a CARv1 file for a job: its sections as `verify` does, and the walk of the job over a store, in
+/// place of that of everything below its roots. So the file is sound if it has all that the job asks for, when
+/// the job is that of its roots and a selector and the store is that of its blocks, as `load_beside` returns
+/// it, which also says how many of these are a later copy: here none is counted. A link that may lead to a
+/// block that isn't there is counted as absent where it does, unless it leads to a root of the job. The observer
+/// is notified of how far it is.
+pub fn verify_job<R: Threads + Sync, V: Observer>(
+    rt: &R,
+    alloc: Global,
+    car: &CarBytes,
+    walk: JobWalk<'_, V>,
+    threads: NonZeroUsize,
+    most: usize,
+) -> Result<Findings, CarFault>
+    ensures { MatchResult result
+        (IsFoundFor walk.entry.allowed walk.entry.store.now walk.entry.job.now car.now most) (IsFileFault car.now) }
+{
+    let JobWalk {
+        store,
+        job,
+        allowed,
+        observer,
+    } = walk;
+    let judged = judge_file(
+        rt,
+        alloc,
+        (Some(store), threads),
+        car.as_slice(),
+        most,
+        observer,
+    )?;
+    match walk_given(alloc, store, allowed, job, most, observer) {
+        Ok(reached) => Ok(judged.with(reached, 0)),
         Err(_) => Err(no_memory(0)),
     }
 }

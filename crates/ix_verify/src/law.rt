@@ -3,7 +3,7 @@
 ghost use Rattle.ix_verify.specs.Laws.{SectionVerdictsAreVerdicts, SoundSectionsHaveTheirDigest};
 ghost use Rattle.ix_verify.specs.Laws.{SoundBlocksAreSoundSections, ArchivesHaveSoundSections};
 ghost use Rattle.ix_verify.specs.Laws.{RootsAreReadBack, SectionsAreReadBack, WrittenIsSoundByItself, VerifiedIsJudged};
-ghost use Rattle.ix_verify.specs.Laws.{DeliveriesHaveSoundSections, JobsHaveSoundSections, WholeArchivesAreSound};
+ghost use Rattle.ix_verify.specs.Laws.{DeliveriesHaveSoundSections, JobsHaveSoundSections, WholeArchivesAreSound, SelectedArchivesAreSound};
 ghost use Rattle.ix_verify.specs.Laws.{FilesAreEndToEnd, SoundCopiesAreTheFirst, DifferenceIsReadBack};
 ghost use Rattle.ix_verify.specs.Laws.{DifferenceThenFilesRestore, FilesThenDifferenceRestore};
 ghost use Rattle.ix_verify.specs.Laws.{WritesTheDifference, WrittenThenFilesRestore};
@@ -41,11 +41,13 @@ pub fn archives_are_read_back()
 
 /// Says that exports are found to be sound, and that this is their outcome: the sections of each archive of deliveries with the store's
 /// verdicts, and so of each job. If a job took everything below one root, expanding each CID once,
-/// within its limit and without a skip, its whole archive is sound, with all that its root requires.
+/// within its limit and without a skip, its whole archive is sound, with all that its root requires. If it
+/// took what a selector enters below its roots, its archive is sound for these roots and this selector.
 pub fn archives_are_sound()
     ensures deliveries { DeliveriesHaveSoundSections }
     ensures job { JobsHaveSoundSections }
     ensures whole { WholeArchivesAreSound }
+    ensures selected { SelectedArchivesAreSound }
 {}
 
 /// Says that a file and others are one store: that of their sections put end to end, the first of each CID.

@@ -8,6 +8,8 @@
 //! order. Of the copies of a block the first counts, or the first that is sound. The bytes of all files are
 //! shared, so one can serve many verifications. An observer is notified of how far a verification is.
 //!
+//! `verify_job` walks a job in place of everything below the roots, as that of the roots and a selector.
+//!
 //! ```rust
 //! let found = verify(rt, alloc, car, threads, Scope::Graph, 20)?;
 //! for section in &found.unsound.first {
@@ -19,6 +21,10 @@
 //! let allowed = AllowMissing::none();
 //! let beside = Beside { others: &[library], copies: Copies::First, allowed, observer: &Unobserved };
 //! let found = verify_beside(rt, alloc, &update, beside, threads, 20)?;
+//!
+//! let (store, _) = load_beside(rt, alloc, &update, &[library], Copies::First, threads.get())?;
+//! let walk = JobWalk { store: &store, job: &job, allowed, observer: &Unobserved };
+//! let found = verify_job(rt, alloc, &update, walk, threads, 20)?;
 //! ```
 #![tactic(auto)]
 
@@ -34,9 +40,9 @@ mod reach;
 mod section;
 
 pub use car_bytes::CarBytes;
-pub use file::{verify, verify_beside, verify_sections};
+pub use file::{JobWalk, verify, verify_beside, verify_job, verify_sections};
 pub use found::{AllowMissing, Copies, Findings, Outcome, Scope, Unsound};
 pub use noted::Noted;
 pub use observer::{Observer, Unobserved};
-pub use other_file::{Beside, OtherFile};
+pub use other_file::{Beside, OtherFile, load_beside};
 pub use section::{judge, judge_all};

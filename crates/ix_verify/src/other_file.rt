@@ -112,9 +112,9 @@ fn check_sections(alloc: Global, car: &[u8]) -> Result<(), CarFault>
     }
 }
 
-// Loads the blocks of a file, and then those of others, and returns how many are a later copy. An error is the
-// file's first one.
-pub(crate) fn load_beside<R: Threads + Sync>(
+/// Loads the blocks of a file, and then those of others, and returns how many are a later copy. An error is the
+/// file's first one.
+pub fn load_beside<R: Threads + Sync>(
     rt: &R,
     alloc: Global,
     car: &CarBytes,

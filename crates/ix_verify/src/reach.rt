@@ -6,6 +6,7 @@ ghost use Rattle.ix_check.specs.Visits.{IsVisitOf};
 ghost use Rattle.ix_check.specs.Verdict.{verdict_of};
 ghost use Rattle.ix_verify.specs.Outcome.{link_finding};
 ghost use Rattle.ix_verdict.specs.Verdict.{is_missing};
+ghost use Rattle.ix_verify.specs.Found.{may_lack};
 ghost use Rattle.ix_verify.specs.Noting.{NotesMore};
 ghost use Rattle.ix_verify.specs.Walked.{skip_at, absent_at, lack_of, roots_as_blocks, IsReachedBy, IsReachedFrom, IsReachedFromNone};
 
@@ -98,6 +99,27 @@ pub(crate) fn walk_roots<V: Observer>(
         most,
     };
     walk_job(alloc, watch, &job, observer)
+}
+
+// Walks a job, and keeps at most so many links that lead to nothing sound.
+pub(crate) fn walk_given<V: Observer>(
+    alloc: Global,
+    store: &Store,
+    allowed: AllowMissing,
+    job: &Job,
+    most: usize,
+    observer: &V,
+) -> Result<Reached, AllocError>
+    ensures { IfOk result (IsReachedBy (may_lack allowed (first_ones job.now.roots)) store.now job.now most) }
+{
+    let (_, set) = distinct_roots(alloc, job.roots())?;
+    let watch = Watch {
+        store,
+        roots: &set,
+        allowed,
+        most,
+    };
+    walk_job(alloc, watch, job, observer)
 }
 
 // Returns each root once, in the order of first occurrences, and a set of them.
