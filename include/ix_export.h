@@ -37,9 +37,10 @@ typedef struct ix_handle {
 
 #define IX_EMPTY {false, NULL}
 
-/* The stack, in bytes, that a thread needs for its calls. For input nested to the limit, ix_store_read_car takes 312 KiB,
- * ix_job_new and ix_job_from_line 311, ix_selector_from_json 278 and ix_export 132 (measured on 27 November 2026 with kit 13f,
- * on an Intel Xeon at 2.50 GHz). With less stack such input ends the process by SIGSEGV. */
+/* The stack, in bytes, that a thread needs for its calls. For input nested to the limit, ix_store_read_car takes up to 312 KiB,
+ * ix_job_new and ix_job_from_line 367, ix_selector_from_json 358, ix_export 133 and ix_archive_check 131 (the greatest of what
+ * was measured in November 2026 with the kits 13f and 13b, the last with 13b alone, on an Intel Xeon at 2.50 GHz). With less
+ * stack such input ends the process by SIGSEGV. */
 #define IX_STACK (1 << 20)
 
 /* Statuses. */
