@@ -17,7 +17,7 @@
  *  - malloc, realloc and free are those of one allocator, which aligns a block to each power of two up to 16
  *    that divides its size. No call comes from a signal handler, nor from a forked child of a process with
  *    threads.
- *  - A thread that reads a file, a job or a selector, or exports, has a stack of IX_STACK bytes (1 MiB). */
+ *  - A thread that reads a file, a job or a selector, exports, or checks an archive has a stack of IX_STACK bytes (1 MiB). */
 #ifndef IX_EXPORT_H
 #define IX_EXPORT_H
 
@@ -29,7 +29,7 @@
 extern "C" {
 #endif
 
-/* A handle. The calls give it its contents: a store, a job, a result, a text or an error. */
+/* A handle. The calls give it its contents: a store, a job, a result, what was found of an archive, a text or an error. */
 typedef struct ix_handle {
   bool is_held;
   void *held;
@@ -37,9 +37,10 @@ typedef struct ix_handle {
 
 #define IX_EMPTY {false, NULL}
 
-/* The stack, in bytes, that a thread needs for its calls. For input nested to the limit, ix_store_read_car takes 312 KiB,
- * ix_job_new and ix_job_from_line 311, ix_selector_from_json 278 and ix_export 132 (measured on 27 November 2026 with kit 13f,
- * on an Intel Xeon at 2.50 GHz). With less stack such input ends the process by SIGSEGV. */
+/* The stack, in bytes, that a thread needs for its calls. For input nested to the limit, ix_store_read_car takes up to 312 KiB,
+ * ix_job_new and ix_job_from_line 367, ix_selector_from_json 358, ix_export 133 and ix_archive_check 131 (the greatest of what
+ * was measured in November 2026 with the kits 13f and 13b, the last with 13b alone, on an Intel Xeon at 2.50 GHz). With less
+ * stack such input ends the process by SIGSEGV. */
 #define IX_STACK (1 << 20)
 
 /* Statuses. */
@@ -50,7 +51,7 @@ enum {
   IX_HANDLE = 3,  /* a handle is empty or has other contents than the call needs; nothing is changed */
   IX_KNOWN = 4,   /* there is already a block under the CID, which stays */
   IX_NO_CID = 5,  /* the bytes are not one CID; nothing is changed */
-  IX_RANGE = 6    /* there is no part or skip with the number; nothing is changed */
+  IX_RANGE = 6    /* there is no part, skip or flag with the number; nothing is changed */
 };
 
 /* Parts of a handle's contents. */
@@ -59,6 +60,9 @@ enum {
   IX_REPORT = 1,  /* of a result: the report, as the program prints it */
   IX_TEXT = 2     /* the text of a selector, or the line of an error */
 };
+
+/* Blocks that may be missing from an archive, by the codec of their CIDs: the sum of these, or 0 for none. */
+enum { IX_MISSING_RAW = 1, IX_MISSING_DAG_CBOR = 2 };
 
 /* How a job ended. IX_END_WRITE: out of memory for the archive; IX_END_START doesn't occur here. */
 enum { IX_END_DONE = 0, IX_END_LIMIT = 1, IX_END_MEMORY = 2, IX_END_WRITE = 3, IX_END_START = 4 };
@@ -82,9 +86,15 @@ typedef struct ix_skip {
   uint32_t why;
 } ix_skip;
 
-/* Returns the version of this interface, which grows with each added call and each change of one: 4. From 4 on
- * there are ix_job_without and ix_result_known; from 3 on ix_store_read_car adds to an open store, which it replaced
- * before. */
+/* The counts of an archive that is a job's own. */
+typedef struct ix_check {
+  uint32_t visits;  /* links visited over the archive's sections, the roots included */
+  uint32_t missing; /* those of them whose block is missing */
+} ix_check;
+
+/* Returns the version of this interface, which grows with each added call and each change of one: 5. From 5 on
+ * there are ix_archive_check, ix_check_counts and ix_check_fault; from 4 on ix_job_without and ix_result_known; from 3 on
+ * ix_store_read_car adds to an open store, which it replaced before. */
 uint32_t ix_version(void);
 
 /* Frees the contents of a handle, which is then empty. The other three are the same call, named by the contents. */
@@ -140,6 +150,24 @@ uint32_t ix_selector_from_json(ix_handle *text, const uint8_t *json, size_t json
 /* Exports a job over a frozen store on the caller's thread, and fills a handle with the result. How the job ended is in
  * the result: IX_DONE says that there is one. IX_DONE, IX_MEMORY, IX_HANDLE. */
 uint32_t ix_export(ix_handle *store, ix_handle *job, ix_handle *result);
+
+/* Checks that the bytes of a CARv1 file are the own archive of a job, and fills a handle with what is found. They are if the
+ * header is the one that is written for the job's roots, each section is sound and as it is written, the job, traversed as
+ * after ix_job_once and within its limit, visits the sections in their order and asks for each, and no block is missing but
+ * those that may be (IX_MISSING_RAW, IX_MISSING_DAG_CBOR). The sender's blocks aren't needed, and the job's base isn't used.
+ * IX_DONE: the archive is accepted, and ix_check_counts has its counts. IX_REFUSED: it is rejected; the handle has the line
+ * that says why (ix_fault_line), and ix_check_fault the offset. IX_RANGE: there is no such flag.
+ * IX_DONE, IX_MEMORY, IX_REFUSED, IX_RANGE, IX_HANDLE. */
+uint32_t ix_archive_check(ix_handle *job, const uint8_t *archive, size_t archive_length, uint32_t missing, ix_handle *found);
+
+/* Gets the counts of an archive that was accepted. IX_DONE, IX_HANDLE. */
+uint32_t ix_check_counts(ix_handle *found, ix_check *counts);
+
+/* Gets the offset in bytes at which an archive was rejected: 0 for its header, where its length begins for a section, or the
+ * end. With it comes the CID in binary of the block that is missing, or else of the section that is refused, which stays there
+ * until the handle is filled or freed. If the header or a section can't be read, or the end is refused for another reason,
+ * there is none, and its length is 0. IX_DONE, IX_HANDLE. */
+uint32_t ix_check_fault(ix_handle *found, size_t *place, const uint8_t **cid, size_t *length);
 
 /* Gets how the job of a result ended (IX_END_DONE ..). IX_DONE, IX_HANDLE. */
 uint32_t ix_result_end(ix_handle *result, uint32_t *end);

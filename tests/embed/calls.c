@@ -16,7 +16,7 @@
     } \
   } while (0)
 
-_Static_assert(sizeof(ix_handle) == 16 && sizeof(ix_counts) == 32 && sizeof(ix_skip) == 8, "sizes");
+_Static_assert(sizeof(ix_handle) == 16 && sizeof(ix_counts) == 32 && sizeof(ix_skip) == 8 && sizeof(ix_check) == 8, "sizes");
 
 /* The CID of the three bytes abc, raw under SHA-256 (FIPS 180-2, B.1), and the archive of it alone (CARv1). */
 #define ABC_CID \
@@ -283,6 +283,66 @@ static void fills_a_store_from_files(void) {
   ix_free(&store), ix_free(&job), ix_free(&out);
 }
 
+static void expect_found(ix_handle *job, const char *archive, size_t length, uint32_t missing, uint32_t visits,
+                         uint32_t lacked) {
+  ix_handle found = IX_EMPTY;
+  ix_check counts;
+  EXPECT(ix_archive_check(job, bytes(archive), length, missing, &found) == IX_DONE && job->is_held);
+  EXPECT(ix_check_counts(&found, &counts) == IX_DONE && counts.visits == visits && counts.missing == lacked);
+  ix_free(&found);
+}
+
+static void expect_rejected(ix_handle *job, const char *archive, size_t length, uint32_t missing, size_t place, const char *cid,
+                            const char *line) {
+  ix_handle found = IX_EMPTY;
+  const uint8_t *start = NULL;
+  size_t at = 0, had = 1, wanted = *cid ? 36 : 0;
+  EXPECT(ix_archive_check(job, bytes(archive), length, missing, &found) == IX_REFUSED && job->is_held);
+  EXPECT(ix_check_fault(&found, &at, &start, &had) == IX_DONE && at == place && had == wanted && !memcmp(start, cid, wanted));
+  expect_named(ix_fault_line, &found, line, strlen(line));
+  expect_part(&found, IX_TEXT, line, strlen(line));
+  ix_free(&found);
+}
+
+#define EXPECT_FOUND(job, archive, ...) expect_found(job, archive, sizeof(archive) - 1, __VA_ARGS__)
+#define EXPECT_REJECTED(job, archive, ...) expect_rejected(job, archive, sizeof(archive) - 1, __VA_ARGS__)
+
+/* The archive of the outer list with its last two sections swapped, and with abc damaged. */
+#define OUTER_SWAPPED OUTER_AND_ABC "\x4e" INNER_CID INNER
+#define OUTER_AND_INNER OUTER_ALONE "\x4e" INNER_CID INNER
+#define OUTER_DAMAGED OUTER_AND_INNER "\x27" ABC_CID "abd"
+
+/* An archive is checked against its job alone: accepted, or rejected with its offset and the CID that is missing or refused. */
+static void checks_archives(void) {
+  ix_handle job = IX_EMPTY, store = store_of_abc(), found = IX_EMPTY;
+  const uint8_t *start;
+  size_t at, length;
+  ix_check counts;
+  enum { OUTER_END = sizeof OUTER_ALONE - 1, INNER_END = sizeof OUTER_AND_INNER - 1 };
+  EXPECT(ix_job_new(&job, BYTES(OUTER_CID), BYTES(ALL), 100) == IX_DONE);
+  EXPECT_FOUND(&job, OUTER_ARCHIVE, 0, 4, 0);
+  EXPECT_REJECTED(&job, OUTER_SWAPPED, 0, OUTER_END, INNER_CID, "archive: refused: a block is missing at 179");
+  EXPECT_REJECTED(&job, OUTER_SWAPPED, IX_MISSING_RAW, OUTER_END, INNER_CID, "archive: refused: a block is missing at 179");
+  EXPECT_REJECTED(&job, OUTER_SWAPPED, IX_MISSING_DAG_CBOR, OUTER_END, ABC_CID, "archive: refused: not asked for at 179");
+  EXPECT_REJECTED(&job, OUTER_DAMAGED, IX_MISSING_RAW, INNER_END, ABC_CID, "archive: refused: damaged at 258");
+  EXPECT_REJECTED(&job, OUTER_AND_INNER, 0, INNER_END, ABC_CID, "archive: unfinished: a block is missing at 258");
+  EXPECT_REJECTED(&job, OUTER_AND_INNER, 2, INNER_END, ABC_CID, "archive: unfinished: a block is missing at 258");
+  EXPECT_FOUND(&job, OUTER_AND_INNER, IX_MISSING_RAW, 4, 1);
+  EXPECT_FOUND(&job, OUTER_ALONE, IX_MISSING_RAW + IX_MISSING_DAG_CBOR, 3, 2);
+  expect_rejected(&job, OUTER_ARCHIVE, sizeof OUTER_ARCHIVE - 2, 0, INNER_END, "", "archive: section: truncated at 258");
+  EXPECT_REJECTED(&job, INNER_ARCHIVE, 0, 0, "", "archive: another header at 0");
+  EXPECT_REJECTED(&job, "", 0, 0, "", "archive: header: truncated at 0");
+  EXPECT(ix_job_new(&job, BYTES(OUTER_CID), BYTES(ALL), 3) == IX_DONE);
+  EXPECT(ix_archive_check(&job, BYTES(OUTER_ARCHIVE), 0, &found) == IX_REFUSED);
+  EXPECT(ix_check_counts(&found, &counts) == IX_HANDLE);
+  EXPECT(ix_archive_check(&store, BYTES(OUTER_ARCHIVE), 0, &found) == IX_HANDLE);
+  EXPECT(ix_archive_check(&job, BYTES(OUTER_ARCHIVE), 4, &found) == IX_RANGE);
+  EXPECT(ix_check_fault(&found, &at, &start, &length) == IX_DONE && ix_export(&store, &found, &job) == IX_HANDLE);
+  ix_free(&job);
+  EXPECT(ix_archive_check(&job, BYTES(OUTER_ARCHIVE), 0, &found) == IX_HANDLE && found.is_held);
+  ix_free(&store), ix_free(&found);
+}
+
 static void tells_a_skip(void) {
   ix_handle store = IX_EMPTY, job = IX_EMPTY, out = IX_EMPTY;
   EXPECT(ix_store_new(&store) == IX_DONE && ix_store_freeze(&store) == IX_DONE);
@@ -315,7 +375,7 @@ static void tells_refusals(void) {
   EXPECT(ix_store_share(&handle, &other) == IX_HANDLE && !other.is_held);
   EXPECT(ix_selector_from_json(&handle, bytes("{\".\":{}}"), 8) == IX_DONE);
   EXPECT_PART(&handle, IX_TEXT, "a1612ea0");
-  EXPECT(ix_store_read_car(&handle, bytes(ARCHIVE), sizeof ARCHIVE - 1) == IX_DONE && ix_version() == 4);
+  EXPECT(ix_store_read_car(&handle, bytes(ARCHIVE), sizeof ARCHIVE - 1) == IX_DONE && ix_version() == 5);
   ix_free(&handle);
 }
 
@@ -326,6 +386,7 @@ typedef struct told {
   uint8_t buffer[8];
   ix_counts counts;
   ix_skip skip;
+  ix_check found;
   uint32_t end;
 } told;
 
@@ -341,6 +402,11 @@ static void expect_no_part(ix_handle *handle, uint32_t part, uint32_t wanted) {
   EXPECT_LEFT(wanted, ix_copy(handle, part, 0, it.buffer, sizeof it.buffer, &it.count));
 }
 
+static void expect_no_finding(ix_handle *handle) {
+  EXPECT_LEFT(IX_HANDLE, ix_check_counts(handle, &it.found));
+  EXPECT_LEFT(IX_HANDLE, ix_check_fault(handle, &it.count, &it.start, &it.length));
+}
+
 static void expect_no_result(ix_handle *handle) {
   EXPECT_LEFT(IX_HANDLE, ix_result_end(handle, &it.end));
   EXPECT_LEFT(IX_HANDLE, ix_result_counts(handle, &it.counts));
@@ -348,6 +414,7 @@ static void expect_no_result(ix_handle *handle) {
   EXPECT_LEFT(IX_HANDLE, ix_result_archive(handle, &it.start, &it.length));
   EXPECT_LEFT(IX_HANDLE, ix_result_report(handle, &it.start, &it.length));
   EXPECT_LEFT(IX_HANDLE, ix_result_skip(handle, 0, &it.skip, &it.start, &it.length));
+  expect_no_finding(handle);
   expect_no_part(handle, IX_ARCHIVE, IX_HANDLE), expect_no_part(handle, IX_REPORT, IX_HANDLE);
 }
 
@@ -359,7 +426,7 @@ static void expect_no_text(ix_handle *handle) {
 /* Handles that are empty or hold something else than a call is for: whatever its pointers lead to is left, and so is what the
  * handles hold that it was to fill. */
 static void leaves_what_it_does_not_fill(void) {
-  ix_handle store = store_of_abc(), job = IX_EMPTY, out = IX_EMPTY, text = IX_EMPTY, empty = IX_EMPTY;
+  ix_handle store = store_of_abc(), job = IX_EMPTY, out = IX_EMPTY, text = IX_EMPTY, empty = IX_EMPTY, found = IX_EMPTY;
   EXPECT(ix_selector_from_json(&text, BYTES("{\".\":{}}")) == IX_DONE);
   EXPECT(ix_job_new(&job, BYTES(ABC_CID INNER_CID), BYTES(MATCHER), 9) == IX_DONE);
   expect_no_result(&store), expect_no_text(&store);
@@ -371,12 +438,17 @@ static void leaves_what_it_does_not_fill(void) {
   EXPECT(ix_export(&store, &job, &out) == IX_DONE);
   EXPECT_LEFT(IX_HANDLE, ix_fault_line(&text, &it.start, &it.length));
   expect_no_result(&empty), expect_no_result(&store), expect_no_result(&job), expect_no_result(&text);
-  expect_no_text(&empty), expect_no_text(&store), expect_no_text(&job), expect_no_text(&out);
+  expect_no_text(&empty), expect_no_text(&store), expect_no_text(&job), expect_no_text(&out), expect_no_finding(&out);
+  EXPECT(ix_archive_check(&empty, BYTES(ARCHIVE), 0, &text) == IX_HANDLE);
+  EXPECT(ix_archive_check(&job, BYTES(ARCHIVE), 4, &text) == IX_RANGE);
+  EXPECT_PART(&text, IX_TEXT, "a1612ea0");
+  EXPECT(ix_archive_check(&job, BYTES(ARCHIVE), 0, &found) == IX_REFUSED);
+  EXPECT_LEFT(IX_HANDLE, ix_check_counts(&found, &it.found));
   EXPECT_LEFT(IX_RANGE, ix_result_skip(&out, 1, &it.skip, &it.start, &it.length));
   EXPECT_LEFT(IX_RANGE, ix_result_skip(&out, SIZE_MAX, &it.skip, &it.start, &it.length));
   expect_no_part(&out, IX_TEXT + 1, IX_RANGE), expect_no_part(&out, UINT32_MAX, IX_RANGE);
   EXPECT(!empty.is_held && ix_job_once(&job) == IX_DONE && ix_export(&store, &job, &text) == IX_DONE);
-  ix_store_free(&store), ix_job_free(&job), ix_result_free(&out), ix_result_free(&text);
+  ix_store_free(&store), ix_job_free(&job), ix_result_free(&out), ix_result_free(&text), ix_free(&found);
 }
 
 /* Sixty-four jobs, each with three roots of the four below, and what is wanted of each, from the formats: the roots that stand
@@ -586,6 +658,21 @@ static void exports_a_deep_block(void) {
   ix_free(&store), ix_free(&job), ix_free(&out);
 }
 
+static void checks_a_deep_archive(void) {
+  static text file;
+  static const char ends[] = LINK_TO(ABC_CID);
+  size_t length = 36 + LEVELS + sizeof ends - 1;
+  ix_handle job = IX_EMPTY, found = IX_EMPTY;
+  ix_check counts;
+  file.length = 0, add(&file, HEADER_OF(DEEP_CID), sizeof HEADER_OF(DEEP_CID) - 1);
+  add(&file, (char[]){(char)(length % 128 + 128), (char)(length / 128)}, 2), add(&file, DEEP_CID, 36);
+  ADD_NESTED(&file, LEVELS, "\x81", LINK_TO(ABC_CID), ""), add(&file, "\x27" ABC_CID "abc", 40);
+  EXPECT(ix_job_new(&job, BYTES(DEEP_CID), BYTES(ALL), 9) == IX_DONE);
+  EXPECT(ix_archive_check(&job, TEXT(file), 0, &found) == IX_DONE);
+  EXPECT(ix_check_counts(&found, &counts) == IX_DONE && counts.visits == 2 && counts.missing == 0);
+  ix_free(&job), ix_free(&found);
+}
+
 static const struct deep {
   const char *call;
   void (*run)(void);
@@ -594,7 +681,8 @@ static const struct deep {
             {"ix_job_new", makes_a_deep_job},
             {"ix_job_from_line", reads_a_deep_line},
             {"ix_selector_from_json", reads_deep_json},
-            {"ix_export", exports_a_deep_block}};
+            {"ix_export", exports_a_deep_block},
+            {"ix_archive_check", checks_a_deep_archive}};
 
 enum { DEEP = sizeof deep / sizeof *deep };
 
@@ -686,7 +774,7 @@ static void shares_a_store(void) {
 /* Each call that takes memory once, of which any may find none: it answers IX_MEMORY then, and its handles are as they were. */
 static bool any_without_memory(void) {
   ix_handle store = IX_EMPTY, other = IX_EMPTY, job = IX_EMPTY, line = IX_EMPTY, out = IX_EMPTY, text = IX_EMPTY, no = IX_EMPTY;
-  ix_handle less = IX_EMPTY;
+  ix_handle less = IX_EMPTY, found = IX_EMPTY;
   bool without = false;
 #define STEP_TO(wanted, call, handle) \
   do { \
@@ -712,6 +800,9 @@ static bool any_without_memory(void) {
   STEP(ix_job_once(&job), job);
   STEP(ix_job_new(&less, BYTES(ABC_CID), BYTES(MATCHER), 1), less);
   STEP(ix_job_without(&less, &other), less);
+  STEP(ix_archive_check(&job, BYTES(ARCHIVE), 0, &found), found);
+  STEP_TO(IX_REFUSED, ix_archive_check(&job, BYTES(HEADER), 0, &no), no);
+  STEP_TO(IX_REFUSED, ix_archive_check(&job, BYTES(INNER_ARCHIVE), 0, &no), no);
   STEP_TO(IX_REFUSED, ix_store_read_car(&no, bytes(""), 0), no);
   STEP_TO(IX_REFUSED, ix_job_from_line(&no, BYTES("a")), no);
   STEP_TO(IX_REFUSED, ix_job_new(&no, BYTES(ABC_CID), bytes(MATCHER), 3, 1), no);
@@ -745,10 +836,12 @@ static bool any_without_memory(void) {
   size_t length;
   EXPECT(ix_result_end(&out, &end) == IX_DONE && end == counts.end);
   EXPECT(ix_result_skip(&out, counts.skips, &skip, &cid, &length) == IX_RANGE && requests == made);
+  ix_check check;
+  EXPECT(ix_check_counts(&found, &check) == IX_DONE && check.visits == 1 && check.missing == 0 && requests == made);
 end:
   made = requests;
   ix_store_free(&store), ix_store_free(&other), ix_job_free(&job), ix_job_free(&line), ix_result_free(&out);
-  ix_free(&text), ix_free(&no), ix_job_free(&less);
+  ix_free(&text), ix_free(&no), ix_job_free(&less), ix_free(&found);
   EXPECT(requests == made);
   return without;
 }
@@ -778,6 +871,7 @@ int main(int count, char **words) {
     goes_in_once();
     leaves_out_what_is_known();
     fills_a_store_from_files();
+    checks_archives();
     tells_a_skip();
     tells_refusals();
     leaves_what_it_does_not_fill();

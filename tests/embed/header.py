@@ -8,7 +8,7 @@ import re
 import sys
 
 TOP = pathlib.Path(__file__).resolve().parents[2]
-STRUCTS = {"Handle": "ix_handle", "Counts": "ix_counts", "SkipRecord": "ix_skip"}
+STRUCTS = {"Handle": "ix_handle", "Counts": "ix_counts", "SkipRecord": "ix_skip", "CheckCounts": "ix_check"}
 NUMBERS = {"u8": "uint8_t", "u32": "uint32_t", "u64": "uint64_t", "usize": "size_t", "bool": "bool"}
 
 

@@ -1,4 +1,5 @@
 pub mod Adding
+pub mod Checks
 pub mod Exporting
 pub mod Failures
 pub mod JobParts

@@ -1,8 +1,11 @@
-//! The single-threaded in-memory API: block stores, jobs, one export, error messages.
+//! The single-threaded in-memory API: block stores, jobs, one export, the check of an archive, error
+//! messages.
 //!
 //! Blocks are added one by one or read from CARv1 files; a job is read from a line of a job file or made
 //! from its parts. An export returns the archive, the counts, the skips and the report; `export_without`
-//! leaves out the blocks that a receiver has. No call starts a thread or waits. Errors are lines of text, those of the program if it rejects the same.
+//! leaves out the blocks that a receiver has. `check` decides whether the bytes of an archive are a job's
+//! own. No call starts a thread or waits. Errors are lines of text, those of the program if it rejects the
+//! same.
 //!
 //! ```rust
 //! let mut store = read_store(alloc, car)?;
@@ -13,6 +16,7 @@
 //! ```
 #![tactic(auto)]
 
+mod checked;
 mod exported;
 mod failure;
 mod input;
@@ -20,9 +24,11 @@ mod job_parts;
 mod object;
 mod request;
 
+pub use checked::{Checked, Rejection, check};
 pub use exported::{Exported, export, export_request, export_without};
 pub use failure::Failure;
 pub use input::{Added, add_block, add_car, job_of_line, read_store, selector_of_json};
+pub use ix_own_archive::{AllowMissing, Counts};
 pub use job_parts::{PartsFault, job_of_parts};
 pub use object::{Object, Piece, freeze, share};
 pub use request::Request;

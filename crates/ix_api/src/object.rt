@@ -4,8 +4,10 @@ ghost use Rattle.std.specs.Prelude.{◌≡◌, MatchOption, MatchResult, IfOk};
 ghost use Rattle.std.specs.Arc.{arc_value};
 ghost use Rattle.ix_api.specs.Parts.{Has, HasNo};
 
+use crate::checked::Rejection;
 use crate::exported::Exported;
 use crate::request::Request;
+use ix_own_archive::Counts;
 use ix_store::Store;
 use std::alloc::{AllocError, Global};
 use std::sync::Arc;
@@ -21,6 +23,10 @@ pub enum Object {
     Job(Request),
     /// The result of an export.
     Exported(Exported),
+    /// The counts of an archive that a check accepted.
+    Accepted(Counts),
+    /// Why a check rejected an archive.
+    Rejected(Rejection),
     /// A text: the selector of a JSON text.
     Text(Vec<u8>),
     /// An error in place of anything else: its line.
@@ -34,7 +40,7 @@ pub enum Piece {
     Archive,
     /// The report of an export.
     Report,
-    /// A text, or the line of an error.
+    /// A text, the line of an error, or why an archive is rejected.
     Text,
 }
 
@@ -47,6 +53,7 @@ impl Object {
             (Piece::Archive, Object::Exported(out)) => Some(out.archive.as_slice()),
             (Piece::Report, Object::Exported(out)) => Some(out.report.as_slice()),
             (Piece::Text, Object::Text(text) | Object::Refusal(text)) => Some(text.as_slice()),
+            (Piece::Text, Object::Rejected(found)) => Some(found.line.as_slice()),
             _ => None,
         }
     }

@@ -1,5 +1,5 @@
 -- What the calls of the C library answer, and what is in their handles after.
-use Rattle.std.specs.Prelude.{◌≡◌, ◌≢◌, ◌⊎◌, ℕ, List, [], ◌∷◌, ◌++◌, Option, Some, None, Result, Ok, Err}
+use Rattle.std.specs.Prelude.{◌≡◌, ◌≢◌, ◌⊎◌, ◌==◌, if◌then◌else◌, ℕ, true, false, List, [], ◌∷◌, ◌++◌, Option, Some, None, Result, Ok, Err}
 use Rattle.std.specs.Global.{Vec, Global}
 use Rattle.std.specs.declared.sync.Arc.{Arc}
 use Rattle.std.specs.Arc.{arc_value}
@@ -15,7 +15,13 @@ use Rattle.ix_api.specs.declared.object.Object.TheVariants as held
 use Rattle.ix_api.specs.declared.input.Added.{Added}
 use Rattle.ix_api.specs.declared.input.Added.TheVariants as added
 use Rattle.ix_api.specs.declared.exported.Exported.{Exported}
+use Rattle.ix_receive.specs.declared.allow_missing.AllowMissing.{AllowMissing}
+use Rattle.ix_receive.specs.declared.counts.Counts.{Counts}
+use Rattle.ix_api.specs.declared.checked.Checked.{Checked}
+use Rattle.ix_api.specs.declared.checked.Rejection.{Rejection}
+use Rattle.ix_api.specs.declared.checked.Checked.TheVariants.{Own, Rejected}
 use Rattle.ix_api.specs.declared.request.Request.{Request}
+use Rattle.ix_api.specs.Checks.{IsCheckOf}
 use Rattle.ix_api.specs.Adding.{HasAdded, HasBegun, IsLeftBy}
 use Rattle.ix_api.specs.Exporting.{HasExported}
 use Rattle.ix_api.specs.Failures.{IsStoreFailure}
@@ -68,6 +74,8 @@ IsOpen blocks (held.Open store) = store ≡ blocks
 IsOpen blocks (held.Frozen store) = ⊥
 IsOpen blocks (held.Job job) = ⊥
 IsOpen blocks (held.Exported out) = ⊥
+IsOpen blocks (held.Accepted counts) = ⊥
+IsOpen blocks (held.Rejected rejection) = ⊥
 IsOpen blocks (held.Text text) = ⊥
 IsOpen blocks (held.Refusal line) = ⊥
 
@@ -81,6 +89,8 @@ IsFrozen blocks (held.Frozen store) = arc_value store ≡ blocks
 IsFrozen blocks (held.Open store) = ⊥
 IsFrozen blocks (held.Job job) = ⊥
 IsFrozen blocks (held.Exported out) = ⊥
+IsFrozen blocks (held.Accepted counts) = ⊥
+IsFrozen blocks (held.Rejected rejection) = ⊥
 IsFrozen blocks (held.Text text) = ⊥
 IsFrozen blocks (held.Refusal line) = ⊥
 
@@ -134,6 +144,8 @@ IsJobOf file (held.Job request) =
 IsJobOf file (held.Open store) = ⊥
 IsJobOf file (held.Frozen store) = ⊥
 IsJobOf file (held.Exported out) = ⊥
+IsJobOf file (held.Accepted counts) = ⊥
+IsJobOf file (held.Rejected rejection) = ⊥
 IsJobOf file (held.Text text) = ⊥
 IsJobOf file (held.Refusal line) = ⊥
 
@@ -144,6 +156,8 @@ IsJobOfParts roots selector limit (held.Job request) =
 IsJobOfParts roots selector limit (held.Open store) = ⊥
 IsJobOfParts roots selector limit (held.Frozen store) = ⊥
 IsJobOfParts roots selector limit (held.Exported out) = ⊥
+IsJobOfParts roots selector limit (held.Accepted counts) = ⊥
+IsJobOfParts roots selector limit (held.Rejected rejection) = ⊥
 IsJobOfParts roots selector limit (held.Text text) = ⊥
 IsJobOfParts roots selector limit (held.Refusal line) = ⊥
 
@@ -154,6 +168,8 @@ IsSelectorTextOf json (held.Open store) = ⊥
 IsSelectorTextOf json (held.Frozen store) = ⊥
 IsSelectorTextOf json (held.Job job) = ⊥
 IsSelectorTextOf json (held.Exported out) = ⊥
+IsSelectorTextOf json (held.Accepted counts) = ⊥
+IsSelectorTextOf json (held.Rejected rejection) = ⊥
 IsSelectorTextOf json (held.Refusal line) = ⊥
 
 -- what an export of a job over these blocks leaves, without what its receiver has
@@ -165,6 +181,8 @@ IsExportOf blocks request (held.Exported out) = HasExportedOf blocks request out
 IsExportOf blocks request (held.Open store) = ⊥
 IsExportOf blocks request (held.Frozen store) = ⊥
 IsExportOf blocks request (held.Job other) = ⊥
+IsExportOf blocks request (held.Accepted counts) = ⊥
+IsExportOf blocks request (held.Rejected rejection) = ⊥
 IsExportOf blocks request (held.Text text) = ⊥
 IsExportOf blocks request (held.Refusal line) = ⊥
 
@@ -287,3 +305,45 @@ abbrev pub IsOwnerOf : Object → Option (Result (Arc Blocks Global) AllocError)
 IsOwnerOf content (Some (Ok owner)) = IsFrozen (arc_value owner) content
 IsOwnerOf content (Some (Err e)) = Unit {0}
 IsOwnerOf content None = (blocks : Blocks) → IsFrozen blocks content → ⊥
+
+-- which blocks may be missing, by the flags of C: 1 for raw ones, and 2 for those of DAG-CBOR
+abbrev pub allowed_by : ℕ → Option AllowMissing
+allowed_by flags =
+    if flags == 0 then Some (record { raw = false; dag_cbor = false }) else
+    (if flags == 1 then Some (record { raw = true; dag_cbor = false }) else
+    (if flags == 2 then Some (record { raw = false; dag_cbor = true }) else
+    (if flags == 3 then Some (record { raw = true; dag_cbor = true }) else None)))
+
+-- a handle holds what was found of an archive, which is done if the archive is accepted and refused if not; or nothing is
+-- changed, for lack of memory
+abbrev pub HasFound : Checked → Option Object → Option Object → Status → Type 0
+HasFound (Own counts) before after status = IsFilled (held.Accepted counts) before after status
+HasFound (Rejected rejection) before after Refused = after ≡ Some (held.Rejected rejection)
+HasFound (Rejected rejection) before after Memory = after ≡ before
+HasFound (Rejected rejection) before after other = ⊥
+
+-- what a check of an archive finds, before a handle is filled with it: none if this is no job
+abbrev pub IsCheckFound : List ℕ → AllowMissing → Object → Option (Result Checked AllocError) → Type 0
+IsCheckFound archive allowed job (Some (Ok found)) =
+    (wanted : Request) × (job ≡ held.Job wanted) × IsCheckOf wanted.job allowed archive found
+IsCheckFound archive allowed job (Some (Err e)) = Unit {0}
+IsCheckFound archive allowed job None = (wanted : Request) → job ≢ held.Job wanted
+
+-- what a call returns that checks whether an archive is the own one of a job
+abbrev pub IsChecked : List ℕ → AllowMissing → Option Object → Option Object → Option Object → Status → Type 0
+IsChecked archive allowed job before after Done =
+    (wanted : Request) × (counts : Counts) × (job ≡ Some (held.Job wanted)) × (after ≡ Some (held.Accepted counts))
+    × IsCheckOf wanted.job allowed archive (Own counts)
+IsChecked archive allowed job before after Refused =
+    (wanted : Request) × (rejection : Rejection) × (job ≡ Some (held.Job wanted)) × (after ≡ Some (held.Rejected rejection))
+    × IsCheckOf wanted.job allowed archive (Rejected rejection)
+IsChecked archive allowed job before after Memory = after ≡ before
+IsChecked archive allowed job before after Handle = (after ≡ before) × IsNoJob job
+IsChecked archive allowed job before after Known = ⊥
+IsChecked archive allowed job before after NoCid = ⊥
+IsChecked archive allowed job before after Range = ⊥
+
+-- the same by flags, of which others than these are out of range
+abbrev pub IsCheckedBy : List ℕ → Option AllowMissing → Option Object → Option Object → Option Object → Status → Type 0
+IsCheckedBy archive None job before after status = (status ≡ Range) × (after ≡ before)
+IsCheckedBy archive (Some allowed) job before after status = IsChecked archive allowed job before after status

@@ -10,6 +10,7 @@ use Rattle.ix_api.specs.declared.object.Piece.TheVariants.{Archive, Report}
 use Rattle.ix_api.specs.Failures.{IsStoreFailure, IsJobFailure, IsPartsFailure, IsSelectorFailure}
 use Rattle.ix_capi.specs.declared.handle.Handle.{Handle}
 use Rattle.ix_capi.specs.declared.results.Counts.{Counts}
+use Rattle.ix_capi.specs.declared.findings.CheckCounts.{CheckCounts}
 use Rattle.ix_capi.specs.declared.results.SkipRecord.{SkipRecord}
 use Rattle.ix_capi.specs.declared.status.Status.{Status}
 use Rattle.ix_capi.specs.Answers.{
@@ -28,6 +29,8 @@ use Rattle.ix_capi.specs.Answers.{
   HasLeftOut,
   HasShared,
   IsExported,
+  allowed_by,
+  IsCheckedBy,
 }
 use Rattle.ix_capi.specs.Results.{
   part_numbered,
@@ -36,7 +39,12 @@ use Rattle.ix_capi.specs.Results.{
   known_of,
   skip_of,
   cid_length,
+  check_counts_of,
+  place_of,
+  blamed_length,
   export_in,
+  own_in,
+  rejection_in,
   skip_in,
   bytes_in,
   line_in,
@@ -115,6 +123,11 @@ pub record ExportsTo (store store_after job job_after out out_after : Handle) (s
   pub store_stays : Stays store store_after
   pub job_stays : Stays job job_after
 
+-- fills a handle with what is found of an archive that may be the own one of a job, whose handle holds what it held
+pub record ChecksTo (archive : List ℕ) (flags : ℕ) (job job_after out out_after : Handle) (status : Status) : Type 0 where
+  pub checked : IsCheckedBy archive (allowed_by flags) (content job) (content out) (content out_after) status
+  pub job_stays : Stays job job_after
+
 -- says of what is found in a handle, which holds what it held
 abbrev pub Sets : {A : Type 0} → (Option Object → Result A Status) → Handle → Handle → A → A → Status → Type 0
 Sets meant before after had told status = IsSet (meant (content before)) had told status × Stays before after
@@ -147,6 +160,17 @@ SetsPartLength number = SetsLength (part_numbered number)
 -- how long the line of an error is
 abbrev pub SetsLineLength : Handle → Handle → ℕ → ℕ → Status → Type 0
 SetsLineLength = Sets (λ content. of_found length (line_in content))
+
+-- what was counted of an archive that is a job's own
+abbrev pub SetsChecked : Handle → Handle → CheckCounts → CheckCounts → Status → Type 0
+SetsChecked = Sets (λ content. of_found check_counts_of (own_in content))
+
+-- where an archive is rejected, and how long the CID is of the block that is missing or of the section that is refused
+abbrev pub SetsPlace : Handle → Handle → ℕ → ℕ → Status → Type 0
+SetsPlace = Sets (λ content. of_found place_of (rejection_in content))
+
+abbrev pub SetsBlamedLength : Handle → Handle → ℕ → ℕ → Status → Type 0
+SetsBlamedLength = Sets (λ content. of_found blamed_length (rejection_in content))
 
 -- a skip by its number, and how long its CID is
 abbrev pub SetsSkip : ℕ → Handle → Handle → SkipRecord → SkipRecord → Status → Type 0

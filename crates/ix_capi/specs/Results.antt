@@ -1,5 +1,5 @@
 -- What the calls of the C library return of a handle's contents.
-use Rattle.std.specs.Prelude.{◌≡◌, ◌≢◌, ◌==◌, if◌then◌else◌, ℕ, List, ◌++◌, length, take, drop, slice_get}
+use Rattle.std.specs.Prelude.{◌≡◌, ◌≢◌, ◌==◌, if◌then◌else◌, ℕ, List, [], ◌++◌, length, take, drop, slice_get}
 use Rattle.std.specs.Prelude.{Option, Some, None, Result, Ok, Err}
 use Rattle.std.specs.Option.{unwrap_or}
 use Rattle.ix_archive.specs.declared.archive.Skip.{Skip}
@@ -8,14 +8,18 @@ use Rattle.ix_archive.specs.declared.sink.End.TheVariants as ends
 use Rattle.ix_verdict.specs.declared.verdict.Verdict.{Verdict}
 use Rattle.ix_verdict.specs.declared.verdict.Verdict.TheVariants as verdicts
 use Rattle.ix_api.specs.declared.exported.Exported.{Exported}
+use Rattle.ix_receive.specs.declared.counts.Counts as own
+use Rattle.ix_api.specs.declared.checked.Rejection.{Rejection}
 use Rattle.ix_api.specs.declared.object.Object.{Object}
 use Rattle.ix_api.specs.declared.object.Object.TheVariants as held
 use Rattle.ix_api.specs.declared.object.Piece.{Piece}
 use Rattle.ix_api.specs.declared.object.Piece.TheVariants as parts
 use Rattle.ix_api.specs.Parts.{piece_of}
 use Rattle.ix_capi.specs.declared.results.Counts.{Counts}
+use Rattle.ix_capi.specs.declared.findings.CheckCounts.{CheckCounts}
 use Rattle.ix_capi.specs.declared.results.BytesPlace.{BytesPlace}
 use Rattle.ix_capi.specs.declared.results.SkipPlace.{SkipPlace}
+use Rattle.ix_capi.specs.declared.findings.RejectionPlace.{RejectionPlace}
 use Rattle.ix_capi.specs.declared.results.SkipRecord.{SkipRecord}
 use Rattle.ix_capi.specs.declared.status.Status.{Status}
 use Rattle.ix_capi.specs.declared.status.Status.TheVariants.{Done, Handle, Range}
@@ -69,6 +73,20 @@ skip_of s = record { visit = s.seq; why = why_code s.verdict }
 abbrev pub cid_length : Skip → ℕ
 cid_length s = length s.cid
 
+-- Of an archive that is a job's own: its counts;
+abbrev pub check_counts_of : own.Counts → CheckCounts
+check_counts_of counts = record { visits = counts.visits; missing = counts.missing }
+
+-- and of one that is rejected: where, and how long the CID is that it blames, or 0 if there is none
+abbrev pub place_of : Rejection → ℕ
+place_of rejection = rejection.place
+
+abbrev pub blamed_cid : Rejection → List ℕ
+blamed_cid rejection = unwrap_or rejection.cid []
+
+abbrev pub blamed_length : Rejection → ℕ
+blamed_length rejection = length (blamed_cid rejection)
+
 -- what is read of what a handle holds; of an empty one nothing is
 abbrev pub IsRead : {A : Type 0} → (Object → Result A Status → Type 0) → Option Object → Result A Status → Type 0
 IsRead reads None answer = answer ≡ Err Handle
@@ -78,6 +96,15 @@ IsRead reads (Some content) answer = reads content answer
 abbrev pub export_in : Option Object → Result Exported Status
 export_in (Some (held.Exported out)) = Ok out
 export_in content = Err Handle
+
+-- what a check counted of a job's own archive, or why it rejected another,
+abbrev pub own_in : Option Object → Result own.Counts Status
+own_in (Some (held.Accepted counts)) = Ok counts
+own_in content = Err Handle
+
+abbrev pub rejection_in : Option Object → Result Rejection Status
+rejection_in (Some (held.Rejected rejection)) = Ok rejection
+rejection_in content = Err Handle
 
 -- a skip of it by its number,
 abbrev pub skip_in : ℕ → Option Object → Result Skip Status
@@ -99,9 +126,10 @@ bytes_in None content = Err Range
 bytes_in (Some part) None = Err Handle
 bytes_in (Some part) (Some content) = bytes_of part content
 
--- the line of an error, and no other text
+-- the line of an error or of an archive that is rejected, and no other text
 abbrev pub line_in : Option Object → Result (List ℕ) Status
 line_in (Some (held.Refusal line)) = Ok line.items
+line_in (Some (held.Rejected rejection)) = Ok rejection.line.items
 line_in content = Err Handle
 
 -- the report on what was found
@@ -119,7 +147,8 @@ IsSet (Err why) before after status = (status ≡ why) × (after ≡ before)
 abbrev pub IsLeft : {A : Type 0} → A → A → Status → Type 0
 IsLeft before after status = status ≢ Done → after ≡ before
 
--- where bytes stand that were found, known by how many they are; where a skip does, known by what is reported of it too
+-- where bytes stand that were found, known by how many they are; where a skip or a rejection does, known by what is reported of
+-- it too
 abbrev pub IsPlaced : Result (List ℕ) Status → Result BytesPlace Status → Type 0
 IsPlaced found place = of_found (λ p. p.length) place ≡ of_found length found
 
@@ -127,6 +156,11 @@ abbrev pub IsSkipPlaced : Result Skip Status → Result SkipPlace Status → Typ
 IsSkipPlaced found place =
     (of_found (λ p. p.told) place ≡ of_found skip_of found)
     × (of_found (λ p. p.cid.length) place ≡ of_found cid_length found)
+
+abbrev pub IsBlamePlaced : Result Rejection Status → Result RejectionPlace Status → Type 0
+IsBlamePlaced found place =
+    (of_found (λ p. p.place) place ≡ of_found place_of found)
+    × (of_found (λ p. p.cid.length) place ≡ of_found blamed_length found)
 
 -- the bytes from a place on for which a buffer has room
 abbrev pub copied : ℕ → List ℕ → List ℕ → List ℕ

@@ -22,6 +22,7 @@ ghost use Rattle.ix_capi.specs.Calls.{
   LeavesOut,
   SharesWith,
   ExportsTo,
+  ChecksTo,
   SetsEnd,
   SetsCounts,
   SetsKnown,
@@ -29,6 +30,9 @@ ghost use Rattle.ix_capi.specs.Calls.{
   SetsReportLength,
   SetsPartLength,
   SetsLineLength,
+  SetsChecked,
+  SetsPlace,
+  SetsBlamedLength,
   SetsSkip,
   SetsCidLength,
   IsCounted,
@@ -37,8 +41,10 @@ ghost use Rattle.ix_capi.specs.Calls.{
 ghost use Rattle.ix_capi.specs.Results.{IsLeft};
 
 mod address;
+mod checking;
 mod exporting;
 mod filling;
+mod findings;
 mod handle;
 mod inputs;
 mod into_raw;
@@ -48,6 +54,7 @@ mod results;
 mod status;
 mod stores;
 
+use crate::findings::CheckCounts;
 use crate::handle::Handle;
 use crate::results::{Counts, SkipRecord, part_numbered};
 use ix_api::Piece;
@@ -56,9 +63,9 @@ use std::alloc::Global;
 /// Returns the version of this interface, which grows with each added call and each change of one.
 #[unsafe(no_mangle)]
 pub extern "C" fn ix_version() -> u32
-    ensures { result ≡ 4 }
+    ensures { result ≡ 5 }
 {
-    4
+    5
 }
 
 /// Frees the contents of a handle, which is then empty.
@@ -193,6 +200,49 @@ pub extern "C" fn ix_export(
     ensures { ByStatus (ExportsTo store.old store.new job.old job.new out.old out.new) result }
 {
     exporting::export_into(alloc, store, job, out).code()
+}
+
+/// Checks that the bytes of a CARv1 file are the own archive of a job, traversed with link-visit-once, and
+/// fills a handle with what is found. The flags say which blocks may be missing.
+#[unsafe(no_mangle)]
+pub extern "C" fn ix_archive_check(
+    alloc: Global,
+    job: &mut Handle,
+    archive: &[u8],
+    allowed: u32,
+    out: &mut Handle,
+) -> u32
+    ensures { ByStatus (ChecksTo archive.now allowed job.old job.new out.old out.new) result }
+{
+    checking::check_into(alloc, job, archive, allowed, out).code()
+}
+
+/// Returns the counts of an archive that is a job's own.
+#[unsafe(no_mangle)]
+pub extern "C" fn ix_check_counts(
+    alloc: Global,
+    handle: &mut Handle,
+    counts: &mut CheckCounts,
+) -> u32
+    ensures { ByStatus (SetsChecked handle.old handle.new counts.old counts.new) result }
+{
+    findings::check_counts(alloc, handle, counts).code()
+}
+
+/// Returns where an archive is rejected, and the address and length of the CID that is missing or refused.
+#[unsafe(no_mangle)]
+pub extern "C" fn ix_check_fault(
+    alloc: Global,
+    handle: &mut Handle,
+    place: &mut usize,
+    cid: &mut *const u8,
+    length: &mut usize,
+) -> u32
+    ensures place { ByStatus (SetsPlace handle.old handle.new place.old place.new) result }
+    ensures cid { ByStatus (SetsBlamedLength handle.old handle.new length.old length.new) result }
+    ensures left { ByStatus (IsLeft cid.old cid.new) result }
+{
+    findings::check_fault(alloc, handle, place, cid, length).code()
 }
 
 /// Returns how the job of a result ended.

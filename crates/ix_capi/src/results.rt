@@ -112,14 +112,15 @@ pub(crate) fn part_numbered(number: u32) -> Option<Piece>
     }
 }
 
-// The address of bytes, and their number.
+/// The address of bytes, and their number.
 #[derive(Drop)]
-struct BytesPlace {
+pub(crate) struct BytesPlace {
     start: *const u8,
     length: usize,
 }
 
-fn place_of(bytes: &[u8]) -> BytesPlace
+/// Returns the address of bytes, and their number.
+pub(crate) fn place_of(bytes: &[u8]) -> BytesPlace
     ensures start { result.start ≡ block_ptr bytes.entry.ref_ptr.0 bytes.entry.ref_ptr.1 }
     ensures length { result.length ≡ length bytes.now }
 {
@@ -136,8 +137,8 @@ struct SkipPlace {
     cid: BytesPlace,
 }
 
-// Writes a value to its address, or leaves it, and returns the status.
-fn set_result<T: Drop>(told: Result<T, Status>, wanted: &mut T) -> Status
+/// Writes a value to its address, or leaves it, and returns the status.
+pub(crate) fn set_result<T: Drop>(told: Result<T, Status>, wanted: &mut T) -> Status
     ensures { IsSet told wanted.old wanted.new result }
 {
     match told {
@@ -149,8 +150,12 @@ fn set_result<T: Drop>(told: Result<T, Status>, wanted: &mut T) -> Status
     }
 }
 
-// Writes the address and length of bytes in the same way.
-fn set_place(found: Result<BytesPlace, Status>, start: &mut *const u8, length: &mut usize) -> Status
+/// Writes the address and length of bytes in the same way.
+pub(crate) fn set_place(
+    found: Result<BytesPlace, Status>,
+    start: &mut *const u8,
+    length: &mut usize,
+) -> Status
     ensures told { IsSet (of_found (λ place. place.length) found) length.old length.new result }
     ensures left { IsLeft start.old start.new result }
 {
@@ -197,7 +202,8 @@ fn bytes_of(held: &Object, part: Piece) -> Result<BytesPlace, Status>
     }
 }
 
-/// Returns the address and length of the line of an error. A handle with another text has none.
+/// Returns the address and length of the line of an error, or of an archive that is rejected. A handle with
+/// another text has none.
 pub(crate) fn fault_line(
     alloc: Global,
     handle: &mut Handle,
@@ -216,6 +222,7 @@ fn line_of(held: &Object) -> Result<BytesPlace, Status>
 {
     match held {
         Object::Refusal(line) => Ok(place_of(line.as_slice())),
+        Object::Rejected(found) => Ok(place_of(found.line.as_slice())),
         _ => Err(Status::Handle),
     }
 }

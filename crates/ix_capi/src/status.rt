@@ -18,7 +18,7 @@ pub enum Status {
     Known,
     /// The bytes are not one CID, and nothing is changed.
     NoCid,
-    /// There is no such part or number, and nothing is changed.
+    /// There is no such part, number or flag, and nothing is changed.
     Range,
 }
 
