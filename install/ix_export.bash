@@ -41,7 +41,7 @@ _ix_export() {
       mapfile -t COMPREPLY < <(compgen -W 'all block entity' -- "$word")
       return
       ;;
-    --root | --segment | --selector | --selector-hex | --limit | --max-limit | --cid | --hex | --part | --max-input) return ;;
+    --root | --segment | --path | --selector | --selector-hex | --limit | --max-limit | --cid | --hex | --part | --max-input) return ;;
   esac
   case $command in
     get) it='--blocks --root --segment --scope --selector --selector-hex --limit --once --every-arrival --without --without-list --allow-missing --out -o --walkers --verifiers --max-input --carv2 --prefer-sound --complete --partial --sync --no-sync --json --progress --quiet -q --verbose -v --help -h' ;;
@@ -53,7 +53,7 @@ _ix_export() {
     block) it='--blocks --out -o --max-input --carv2 --prefer-sound --sync --no-sync --progress --quiet -q --help -h' ;;
     show) it='--blocks --pretty --max-input --carv2 --prefer-sound --progress --quiet -q --help -h' ;;
     inspect) it='--list --cids --max-input --carv2 --json --quiet -q --help -h' ;;
-    verify) it='--with --prefer-sound --allow-missing --blocks-only --all --verifiers --max-input --carv2 --json --progress --quiet -q --help -h' ;;
+    verify) it='--with --prefer-sound --allow-missing --selector --selector-hex --path --scope --exact --blocks-only --all --verifiers --max-input --carv2 --json --progress --quiet -q --help -h' ;;
     *) it='get jobs job check-jobs selector root block show inspect verify --help -h --version -V' ;;
   esac
   case $command in

@@ -3,7 +3,8 @@
 signed commit, the tree of its keys (a Merkle search tree) and records, of which many link a blob that is in no file. `get
 --allow-missing raw` ends with status 0 and counts as absent what the generator counts, and its archive is the whole file in
 the order of a walk; without the option each link to a blob is a `missing` skip. A damaged record is a skip either way.
-`--records` makes another number, `--keep FILE` leaves the repository there. Ends with status 1 at the first run that is wrong.
+The tree of the keys alone, which a selector takes, is sound by `verify --selector --exact` with that selector; the whole file
+isn't exactly that. `--records` makes another number, `--keep FILE` leaves the repository there. Ends with status 1 at the first run that is wrong.
 """
 
 import argparse
@@ -21,6 +22,10 @@ sys.path[:0] = [str(TESTS)]
 sys.dont_write_bytecode = True
 from hostile import ALL, DAG_CBOR, PROGRAM, RAW, Wrong, cid, header, section, text
 from show import Link, Text, encoded
+
+# The commit and the tree of the keys, without the records.
+TREE = {"f": {"f>": {"l": {"@": {}}, "e": {"a": {">": {"f": {"f>": {"t": {"@": {}}}}}}}}}}
+TREE = json.dumps({"f": {"f>": {"data": {"R": {"l": {"none": {}}, ":>": TREE}}}}})
 
 DID = "did:plc:ewvi7nxzyoun6zhxrhs64oiz"
 DIGITS = "234567abcdefghijklmnopqrstuvwxyz"
@@ -78,7 +83,7 @@ class Repository:
 
     def __init__(self, records, chance):
         self.chance = chance
-        self.blocks, self.links = {}, {}
+        self.blocks, self.links, self.below = {}, {}, {}
         self.blobs = [cid(RAW, b"blob %d" % number) for number in range(records // 3 + 2)]
         made = {}
         clock = 1_700_000_000_000_000 << 10
@@ -94,6 +99,7 @@ class Repository:
         # No one checks this signature, so it is any 64 bytes.
         signature = hashlib.sha512(encoded(node_of(commit))).digest()
         self.root = self.keep({**commit, "sig": signature})
+        self.below[self.root] = [tree]
 
     def kind(self, number):
         return "like" if number % 5 == 4 else "post"
@@ -140,7 +146,9 @@ class Repository:
             entries.append({"p": shared, "k": key[shared:], "v": Link(value), "t": below and Link(below)})
             before = key
         left = self.tree(items[: places[0]] if places else items, layer - 1)
-        return self.keep({"l": left and Link(left), "e": entries})
+        key = self.keep({"l": left and Link(left), "e": entries})
+        self.below[key] = [entry["t"].cid for entry in entries if entry["t"]] + ([left] if left else [])
+        return key
 
     def keep(self, value):
         block = encoded(node_of(value))
@@ -166,7 +174,8 @@ def shared_by(one, other):
 class Walk:
     """A walk over everything below the commit, which goes into a block once, or at every link to it."""
 
-    def __init__(self, repository, once=True, lacking=()):
+    def __init__(self, repository, once=True, lacking=(), links=None):
+        links = links or repository.links
         self.visits, self.sections, self.skipped = 0, {}, []
         stack = [repository.root]
         expanded = set()
@@ -179,7 +188,7 @@ class Walk:
             self.sections.setdefault(key, repository.blocks[key])
             if not (once and key in expanded):
                 expanded.add(key)
-                stack += reversed(repository.links[key])
+                stack += reversed(links[key])
         self.archive = header([repository.root]) + b"".join(section(*entry) for entry in self.sections.items())
 
     def line(self, name, absent=None):
@@ -237,6 +246,7 @@ def judge(repository, room):
     sound = f"{out} sound sections={len(walk.sections)} bytes={len(walk.archive)} absent={len(missing)}\n"
     same("verify --allow-missing", run(["verify", "--allow-missing", "raw", out], 0), sound)
     judge_jobs(repository, room, file, walk)
+    judge_tree(repository, room, [*get, "--selector", TREE], walk)
 
 
 def judge_jobs(repository, room, file, walk):
@@ -254,6 +264,31 @@ def judge_jobs(repository, room, file, walk):
         told = json.loads(run([*words, *way, "--json"], 0).splitlines()[0])
         same("JSON", (told["absent"], told["skips"]), (absent, []))
     same("jobs --quiet", run([*words, "--once", "--quiet"], 0), "")
+
+
+def judge_tree(repository, room, get, whole):
+    """Judges the tree of the keys alone, and what `verify` says of it and of the whole."""
+    out = f"{room}/out.car"
+    walk = Walk(repository, links=repository.below)
+    if not 1 < len(walk.sections) < len(whole.sections) / 2:
+        raise Wrong("the generator's repository is all tree, or has none")
+    same("the tree", without_numbers(run(get, 0)), report(walk, []))
+    same("the archive of the tree", pathlib.Path(out).read_bytes(), walk.archive)
+    line = f"{out} {{}} sections={len(walk.sections)} bytes={len(walk.archive)}"
+    for words in ([], ["--exact"]):
+        same(f"verify {words}", run(["verify", out, "--selector", TREE, *words], 0), f"{line.format('sound')}\n")
+    told = run(["verify", out, "--exact"], 3).splitlines()[0]
+    same("verify with all below", told.split(" skips=")[0], f"{line.format('incomplete')} unsound=0")
+    pathlib.Path(out).write_bytes(whole.archive)
+    line = f"{out} {{}} sections={len(whole.sections)} bytes={len(whole.archive)}"
+    same("verify of the whole", run(["verify", out, "--selector", TREE], 0), f"{line.format('sound')}\n")
+    place = len(header([repository.root]))
+    for key, block in whole.sections.items():
+        if key not in walk.sections:
+            break
+        place += len(section(key, block))
+    told = run(["verify", out, "--selector", TREE, "--exact"], 3)
+    same("verify --exact of it", told, f"{line.format('inexact')} unsound=0 skips=0\n  exact {place} surplus {text(key)}\n")
 
 
 def judge_damage(repository, room):

@@ -85,7 +85,8 @@ wrong() {
   begin "CARv2: $line"
   bytes "$@" >v2.car
   run verify v2.car
-  refused "v2.car: $line"
+  expect_text 'exit status' 2 "$status"
+  expect_text 'the beginning' "v2.car: $line:" "$(cut -c "1-$((${#line} + 9))" "$scratch/stderr")"
   run "${get_of[@]}" --blocks v2.car
   expect_text 'exit status' 2 "$status"
   expect_text 'the beginning' "blocks: $line:" "$(cut -c "1-$((${#line} + 9))" "$scratch/stderr")"

@@ -133,6 +133,7 @@ same_without verify lacks.car a.car b.car --allow-missing raw
 expect_text 'absent' '"absent":1 "absent":0 "absent":0' "$(grep -o '"absent":[0-9]*' "$scratch/stdout" | tr '\n' ' ' | sed 's/ $//')"
 same_without verify lacks.car a.car hash.car --quiet
 same_without verify c.car none a.car b.car --blocks-only
+same_without verify a.car b.car hash.car --exact --scope block
 sections=
 for number in $(seq 10 40); do sections+=$(section "$abc_cid" "$number"); done
 bytes "$(header "$one_cid")$sections" >d.car

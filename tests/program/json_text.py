@@ -28,7 +28,7 @@ def of_job(it):
 
 
 def of_file(it):
-    assert it["outcome"] in ("sound", "incomplete", "unsupported", "broken"), it["outcome"]
+    assert it["outcome"] in ("sound", "incomplete", "inexact", "unsupported", "broken"), it["outcome"]
     line = "{file} {outcome} sections={sections} bytes={bytes}".format(**it)
     line += "" if it["outcome"] == "sound" else " unsound={unsound} skips={skips}".format(**it)
     yield line + (f" absent={it['absent']}" if "absent" in it else "")
@@ -41,6 +41,8 @@ def of_file(it):
         yield f"  and {it['more']} more (--all prints each)"
     if "limit" in it:
         yield "  limit"
+    if "exact" in it:
+        yield "  exact {place} {reason}".format(**it["exact"]) + (f" {it['exact']['cid']}" if "cid" in it["exact"] else "")
 
 
 def of_summary(it):

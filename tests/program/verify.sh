@@ -18,8 +18,25 @@ expect 3 "b.car incomplete sections=1 bytes=138 unsound=0 skips=1
 a.car sound sections=2 bytes=178" ''
 run verify c.car none a.car b.car --blocks-only
 expect 2 "a.car sound sections=2 bytes=178
-b.car sound sections=1 bytes=138" "c.car: header at 0
+b.car sound sections=1 bytes=138" "c.car: header at 0: not a CARv1 file
 cannot read none: No such file or directory (os error 2)"
+
+# gzip, text and an empty file, and a section that is cut.
+begin 'verify: what a file is that is rejected, among FILEs and in --with'
+bytes "$one_archive" >a.car
+bytes 1f8b0800 >a.gz
+bytes 6162630a >a.txt
+: >empty.car
+bytes "$no_roots" 2701551220ba7816bf8f >cut.car
+run verify a.gz a.txt a.car empty.car cut.car
+expect 2 "a.car sound sections=2 bytes=178" "a.gz: truncated at 0: compressed by gzip
+a.txt: truncated at 0: plain text
+empty.car: truncated at 0: an empty file
+cut.car: truncated at 18: ix_export inspect says how to keep the sections before it"
+run verify a.car --with a.gz
+refused 'a.gz: truncated at 0: compressed by gzip'
+run verify a.car --with a.car --with cut.car
+refused 'cut.car: truncated at 18: ix_export inspect says how to keep the sections before it'
 
 begin 'verify: a section that stands twice, the second damaged'
 bytes "$one_archive$(section "$abc_cid" 616264)" >blocks.car

@@ -74,17 +74,17 @@ bytes "$no_roots" 2701551220ba7816bf8f >cut.car
 : >empty.car
 mkdir folder.car
 run verify a.car --with b.car --with cut.car --with none.car
-refused 'cut.car: truncated at 18'
+refused 'cut.car: truncated at 18: ix_export inspect says how to keep the sections before it'
 run verify cut.car --with none.car --with cut.car
 refused 'cannot read none.car: No such file or directory (os error 2)'
 run verify a.car --with folder.car
 refused 'cannot read folder.car: Is a directory (os error 21)'
 run verify a.car --with empty.car
-refused 'empty.car: truncated at 0'
+refused 'empty.car: truncated at 0: an empty file'
 run verify b.car --with a.car --max-input 137
 refused 'too large a.car: an input has at most 137 bytes: --max-input allows more'
 run verify cut.car a.car --with b.car
-expect 2 "$a_sound" 'cut.car: truncated at 18'
+expect 2 "$a_sound" 'cut.car: truncated at 18: ix_export inspect says how to keep the sections before it'
 
 beside 'CARv2 files, with places from their beginning'
 of_a=$(header "$one_cid")$(section "$one_cid" "$one")
@@ -104,10 +104,10 @@ expect 3 "own2.car broken sections=2 bytes=236 unsound=1 skips=1
   link damaged $abc_text" ''
 bytes "$(carv2 51 57 0 "$of_b")" >cut2.car
 run verify a.car --with cut2.car
-refused 'cut2.car: truncated at 69'
+refused 'cut2.car: truncated at 69: ix_export inspect says how to keep the sections before it'
 bytes "$(carv2 50 58 0 "$of_b")" >cut2.car
 run verify a.car --with cut2.car
-refused 'cut2.car: header at 11'
+refused 'cut2.car: header at 11: the payload that the header of a CARv2 file names is not whole in it'
 
 beside 'standard input is one of all files once'
 run verify a.car --with - <b.car

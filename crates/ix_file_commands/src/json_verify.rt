@@ -1,7 +1,8 @@
 //! What the command `verify` prints as JSON.
 
+use crate::exact::Inexact;
 use crate::json_line::{begin_object, end_object, push_boolean, push_count};
-use crate::verify::Report;
+use crate::verify_report::Report;
 use ix_archive::Skip;
 use ix_json_report::{push_cid, push_text, push_verdict};
 use ix_verify::Unsound;
@@ -13,8 +14,7 @@ pub(crate) fn report_object(alloc: Global, report: &Report<'_>) -> Result<Vec<u8
     let found = report.found;
     let mut out = begin_object(alloc)?;
     push_text(&mut out, "file", report.path)?;
-    let outcome = format!(in alloc; "{}", found.outcome())?;
-    push_text(&mut out, "outcome", outcome.as_str())?;
+    push_text(&mut out, "outcome", report.outcome(alloc)?.as_str())?;
     push_count(&mut out, "sections", found.sections)?;
     push_count(&mut out, "bytes", report.bytes)?;
     push_count(&mut out, "unsound", found.unsound.count)?;
@@ -26,6 +26,9 @@ pub(crate) fn report_object(alloc: Global, report: &Report<'_>) -> Result<Vec<u8
     push_count(&mut out, "more", report.more())?;
     if found.is_over_limit {
         push_boolean(&mut out, "limit", true)?;
+    }
+    if let Some(inexact) = report.inexact {
+        push_inexact(alloc, &mut out, report.start, inexact)?;
     }
     end_object(out)
 }
@@ -62,5 +65,22 @@ fn push_link(alloc: Global, out: &mut Writer, skip: &Skip) -> Result<(), AllocEr
     out.begin_object()?;
     push_verdict(alloc, out, "link", skip.verdict)?;
     push_cid(alloc, out, &skip.cid)?;
+    out.end_object()
+}
+
+// Appends the first place at which a CARv1 file, which begins at an offset, isn't what is asked for.
+fn push_inexact(
+    alloc: Global,
+    out: &mut Writer,
+    start: usize,
+    inexact: &Inexact,
+) -> Result<(), AllocError> {
+    out.key("exact")?;
+    out.begin_object()?;
+    push_count(out, "place", start.saturating_add(inexact.place))?;
+    push_text(out, "reason", inexact.reason.as_str())?;
+    if let Some(cid) = &inexact.cid {
+        push_cid(alloc, out, cid)?;
+    }
     out.end_object()
 }

@@ -3,8 +3,12 @@
 #![tactic(auto)]
 
 mod car_input;
+mod exact;
 pub mod inspect;
 mod json_inspect;
 mod json_line;
 mod json_verify;
 pub mod verify;
+mod verify_report;
+mod verify_spec;
+mod wanted;

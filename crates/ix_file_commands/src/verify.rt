@@ -1,154 +1,42 @@
 //! The command `verify`: whether CARv1 files are sound, and whole.
 
 use crate::car_input::{CarInput, Rejection};
-use crate::json_verify::report_object;
+use crate::exact::{Inexact, inexact_header, inexact_in};
+use crate::verify_report::{Report, print_report};
+pub use crate::verify_spec::SPEC;
+use crate::verify_spec::{
+    ALL, ALLOW_MISSING, BLOCKS_ONLY, EXACT, FILES, PREFER_SOUND, QUIET, WITH,
+};
+use crate::wanted::Wanted;
 use clap::ArgMatches;
 use clap::error::ErrorKind as UsageKind;
-use ix_car::CarFault;
+use ix_car::read_header;
 use ix_cli_io::{ANY_SIZE, Failure, Progress, ProgressMode, REFUSED, STANDARD_INPUT, size_of_all};
 use ix_options::{
-    ArgKind, ArgSpec, CARV2, CommandSpec, Host, JSON, MAX_INPUT, PROGRESS, VERIFIERS, later_note,
-    most_input, print_notes, progress_mode,
+    Host, JSON, VERIFIERS, later_note, most_input, print_notes, print_refusal, progress_mode,
 };
-use ix_run::RunFault;
+use ix_store::Store;
 use ix_verify::{
-    AllowMissing, Beside, CarBytes, Copies, Findings, Observer, OtherFile, Outcome, Scope, Unsound,
-    verify_beside, verify_sections,
+    AllowMissing, Beside, Copies, Findings, JobWalk, Observer, OtherFile, Scope, load_beside,
+    verify_beside, verify_job, verify_sections,
 };
+use ix_walk::Job;
 use std::alloc::{AllocError, Global};
-use std::io::{self, BufWriter, ErrorKind, Write};
 use std::num::NonZeroUsize;
 use std::rt::{Clock, Files};
-
-// The status of a file that isn't sound, or not whole.
-const NOT_SOUND: u8 = 3;
 
 // How many findings of a file are printed without `--all`.
 const FIRST: usize = 20;
 
-const ABOUT: &str = "Check CARv1 files: each section, and every link from the roots";
-
-const HELP: &str =
-    "Each FILE is a CARv1 file; - is standard input. Each section is checked by its\n\
-own bytes: whether the hash of its block is the digest of its CID, whatever its\n\
-codec, and whether DAG-CBOR decodes. Then all links are followed from the roots\n\
-of the header, in one walk: a root that is named twice counts once, and a block\n\
-is expanded once. With --blocks-only nothing is followed.\n\
-\n\
-A CID that a FILE lacks is looked up in the files of --with, in their order. Of\n\
-these only the blocks that links lead to are checked.\n\
-\n\
-Of several copies of a block, in FILE or after it in the files of --with, the\n\
-first counts. With --prefer-sound each copy is hashed, and the first that is\n\
-sound counts, so a link to it leads to something sound. A damaged section of\n\
-FILE is a finding all the same. A line on standard error says how many blocks\n\
-are a later copy.\n\
-\n\
-One line is printed for each file:\n\
-\n\
-\x20 FILE sound sections=N bytes=B\n\
-\x20 FILE OUTCOME sections=N bytes=B unsound=U skips=S\n\
-\n\
-OUTCOME is the worst that holds: `broken` (a section or what a link leads to is\n\
-damaged or malformed), `unsupported` (a hash is neither SHA-256, SHA-512 nor\n\
-identity, or links weren't followed, below a codec other than raw and DAG-CBOR),\n\
-or `incomplete` (links lead to blocks that aren't there, as in the archive of a\n\
-selector).\n\
-\n\
-The second line is followed by the findings: `section PLACE VERDICT CID` for\n\
-each section that isn't sound, PLACE being the byte at which its length begins,\n\
-and `link VERDICT CID` for each link that leads to nothing sound. The verdicts\n\
-are codec, hash, missing, damaged and malformed. U and S count all of them; the\n\
-first 20 lines are printed, and how many more there are. With --all each is\n\
-printed, and the line of the file after them. With --json a file has one object,\n\
-with the findings in it: docs/JSON.md has its keys.\n\
-\n\
-With --allow-missing links to blocks that aren't there are no findings if WHICH\n\
-has the codec of their CID: `raw`, `dag-cbor`, both with one comma between, or\n\
-`all`. They are counted at the end of the file's line, as ` absent=N`. A root is\n\
-a finding all the same, and so is a damaged block.\n\
-\n\
-With --quiet the line of a file is printed only if it isn't sound.\n\
-\n\
-A header without roots has nothing to follow.\n\
-\n\
-\x20 ix_export verify out/*.car\n\
-\x20 ix_export verify --all library.car | grep ' link missing '\n\
-\x20 ix_export verify update.car --with library.car\n\
-\x20 ix_export verify a.car --with b.car --prefer-sound\n\
-\x20 ix_export verify repository.car --allow-missing raw\n\
-\n\
-Status: 0 if each file is sound, 3 if one isn't, 2 if the arguments or a file\n\
-are rejected.";
-
-const FILES: ArgSpec = ArgSpec {
-    name: "file",
-    given: ArgKind::Many("FILE"),
-    help: "CARv1 files, or - for standard input",
-};
-
-const WITH: ArgSpec = ArgSpec {
-    name: "with",
-    given: ArgKind::ManyWithout("FILE", "blocks-only"),
-    help: "Follow links into this CARv1 too; several add up",
-};
-
-const PREFER_SOUND: ArgSpec = ArgSpec {
-    name: "prefer-sound",
-    given: ArgKind::FlagWithout("blocks-only"),
-    help: "Use the first sound copy of a block, if any is",
-};
-
-const BLOCKS_ONLY: ArgSpec = ArgSpec {
-    name: "blocks-only",
-    given: ArgKind::Flag,
-    help: "Check the sections alone, without links",
-};
-
-const ALL: ArgSpec = ArgSpec {
-    name: "all",
-    given: ArgKind::Flag,
-    help: "Print every finding, the line of the file last",
-};
-
-const ALLOW_MISSING: ArgSpec = ArgSpec {
-    name: "allow-missing",
-    given: ArgKind::ConflictsWith("WHICH", "blocks-only"),
-    help: "Allow missing blocks: raw, dag-cbor, both or all",
-};
-
-const QUIET: ArgSpec = ArgSpec {
-    name: "quiet",
-    given: ArgKind::Flag,
-    help: "No progress, and no line of a file that is sound",
-};
-
-/// The command.
-pub static SPEC: CommandSpec = CommandSpec {
-    name: "verify",
-    about: ABOUT,
-    help: HELP,
-    words: &[
-        FILES,
-        WITH,
-        PREFER_SOUND,
-        ALLOW_MISSING,
-        BLOCKS_ONLY,
-        ALL,
-        VERIFIERS,
-        MAX_INPUT,
-        CARV2,
-        JSON,
-        PROGRESS,
-        QUIET,
-    ],
-};
-
 // What the arguments choose besides the files.
 #[derive(Clone, Copy)]
-struct VerifyCommand {
+struct VerifyCommand<'a> {
     threads: NonZeroUsize,
     scope: Scope,
+    // What is asked for in place of everything below the roots, if that was given.
+    wanted: Option<Wanted<'a>>,
+    // Whether a file is to be exactly what is asked for.
+    is_exact: bool,
     // Which copy of a block counts for a link.
     copies: Copies,
     // Which links may lead to blocks that aren't there, if that was given.
@@ -166,6 +54,11 @@ struct VerifyCommand {
 /// is verified. After a file that is rejected it goes on with the next.
 pub fn run<'a, R: Host>(rt: &R, words: &ArgMatches<'a>, is_terminal: bool) -> Result<u8, Failure> {
     let command = VerifyCommand::read(rt.alloc(), words, is_terminal)?;
+    if let Some(wanted) = &command.wanted
+        && let Some(line) = wanted.refused(rt.alloc())
+    {
+        return print_refusal(rt, line);
+    }
     let progress = Progress::new(rt, command.progress);
     let mut others = Vec::new(rt.alloc());
     let paths = words.get_strs(WITH.name).unwrap_or(&[]);
@@ -224,14 +117,14 @@ fn worse(status: u8, other: u8) -> u8 {
     }
 }
 
-impl VerifyCommand {
+impl<'a> VerifyCommand<'a> {
     // Reads the arguments. The first that is rejected is reported, in this order: standard input that is given
-    // twice, the codecs of missing blocks, and the size.
-    fn read<'a>(
+    // twice, what is asked for, the codecs of missing blocks, and the size.
+    fn read(
         alloc: Global,
         words: &ArgMatches<'a>,
         is_terminal: bool,
-    ) -> Result<VerifyCommand, Failure> {
+    ) -> Result<VerifyCommand<'a>, Failure> {
         check_standard_input(alloc, words)?;
         let threads = VERIFIERS.threads(words) as usize;
         Ok(VerifyCommand {
@@ -241,6 +134,8 @@ impl VerifyCommand {
             } else {
                 Scope::Graph
             },
+            wanted: Wanted::given(alloc, words)?,
+            is_exact: EXACT.is_given(words),
             copies: if PREFER_SOUND.is_given(words) {
                 Copies::Sound
             } else {
@@ -256,13 +151,13 @@ impl VerifyCommand {
     }
 
     // Reads the files beside which others are verified, up to the first that is rejected.
-    fn read_others<'a, R: Host>(
+    fn read_others<'f, R: Host>(
         &self,
         rt: &R,
-        paths: &[&'a str],
+        paths: &[&'f str],
         progress: &Progress<R>,
         others: &mut Vec<OtherFile>,
-    ) -> Result<(), Rejection<'a>> {
+    ) -> Result<(), Rejection<'f>> {
         for path in paths {
             push_other(others, self.read_other(rt, path, progress))?;
         }
@@ -270,88 +165,207 @@ impl VerifyCommand {
     }
 
     // Reads a file beside which others are verified.
-    fn read_other<'a, R: Host>(
+    fn read_other<'f, R: Host>(
         &self,
         rt: &R,
-        path: &'a str,
+        path: &'f str,
         progress: &Progress<R>,
-    ) -> Result<OtherFile, Rejection<'a>> {
-        let CarInput { car, start, .. } = self.load(rt, path, progress)?;
+    ) -> Result<OtherFile, Rejection<'f>> {
+        let CarInput { car, source, .. } = self.load(rt, path, progress)?;
         match OtherFile::read(rt.alloc(), car) {
             Ok(other) => Ok(other),
-            Err(fault) => Err(Rejection::of_car(path, start, fault)),
+            Err(fault) => Err(source.rejection(fault)),
         }
     }
 
     // Reads a file.
-    fn load<'a, R: Host>(
+    fn load<'f, R: Host>(
         &self,
         rt: &R,
-        path: &'a str,
+        path: &'f str,
         progress: &Progress<R>,
-    ) -> Result<CarInput, Rejection<'a>> {
+    ) -> Result<CarInput<'f>, Rejection<'f>> {
         CarInput::load(rt, path, self.most_input, self.threads.get(), progress)
     }
 
     // Verifies a file beside others, prints what was found and how many blocks are a later copy, and returns the
     // status.
-    fn verify_file<'a, R: Host>(
+    fn verify_file<'f, R: Host>(
         &self,
         rt: &R,
-        path: &'a str,
+        path: &'f str,
         others: &[OtherFile],
         progress: &Progress<R>,
-    ) -> Result<u8, Rejection<'a>> {
-        let CarInput { car, start, size } = self.load(rt, path, progress)?;
-        let most = if self.prints_all { usize::MAX } else { FIRST };
-        match self.findings(rt, &car, others, most, progress) {
-            Ok(found) => {
-                progress.end_checked();
-                let report = Report {
-                    path,
-                    bytes: size,
-                    start,
-                    found: &found,
-                    most,
-                    prints_all: self.prints_all,
-                    is_json: self.is_json,
-                    shows_absent: self.allowed.is_some(),
-                };
-                let status = if self.is_quiet && report.is_sound() {
-                    0
-                } else {
-                    print_report(rt, &report)?
-                };
-                print_later(rt, path, found.later_count);
-                Ok(status)
-            }
-            Err(fault) => Err(Rejection::of_car(path, start, fault)),
+    ) -> Result<u8, Rejection<'f>> {
+        let input = self.load(rt, path, progress)?;
+        let (found, inexact) = self.judge(rt, &input, others, progress)?;
+        progress.end_checked();
+        let inexact = inexact.as_ref();
+        let report = Report {
+            path,
+            bytes: input.size,
+            start: input.source.start,
+            found: &found,
+            inexact,
+            most: self.most(),
+            prints_all: self.prints_all,
+            is_json: self.is_json,
+            shows_absent: self.allowed.is_some(),
+        };
+        let status = if self.is_quiet && report.is_sound() {
+            0
+        } else {
+            print_report(rt, &report)?
+        };
+        print_later(rt, path, found.later_count);
+        Ok(status)
+    }
+
+    // Verifies a file beside others, and shows how far it is. Returns the first place at which it isn't exactly what is
+    // asked for too, if it is to be.
+    fn judge<'f, R: Host>(
+        &self,
+        rt: &R,
+        input: &CarInput<'f>,
+        others: &[OtherFile],
+        progress: &Progress<R>,
+    ) -> Result<(Findings, Option<Inexact>), Rejection<'f>> {
+        match &self.wanted {
+            Some(wanted) => self.wanted_findings(rt, input, others, wanted, progress),
+            None => Ok((self.findings(rt, input, others, progress)?, None)),
         }
     }
 
-    // Verifies a file beside others, and shows how far it is.
-    fn findings<R: Host>(
+    // Returns how many findings of a kind are kept at most.
+    fn most(&self) -> usize {
+        if self.prints_all { usize::MAX } else { FIRST }
+    }
+
+    // Verifies a file beside others, with everything below its roots if links are followed.
+    fn findings<'f, R: Host>(
         &self,
         rt: &R,
-        car: &CarBytes,
+        input: &CarInput<'f>,
         others: &[OtherFile],
-        most: usize,
         progress: &Progress<R>,
-    ) -> Result<Findings, CarFault> {
-        let (alloc, threads) = (rt.alloc(), self.threads);
+    ) -> Result<Findings, Rejection<'f>> {
+        let (alloc, threads, most) = (rt.alloc(), self.threads, self.most());
         let observer = Observing { progress };
-        match self.scope {
-            Scope::Sections => verify_sections(rt, alloc, car, threads, most, &observer),
+        let found = match self.scope {
+            Scope::Sections => verify_sections(rt, alloc, &input.car, threads, most, &observer),
             Scope::Graph => {
                 let beside = Beside {
                     others,
                     copies: self.copies,
-                    allowed: self.allowed.unwrap_or(AllowMissing::none()),
+                    allowed: self.allowed(),
                     observer: &observer,
                 };
-                verify_beside(rt, alloc, car, beside, threads, most)
+                verify_beside(rt, alloc, &input.car, beside, threads, most)
+            }
+        };
+        match found {
+            Ok(found) => Ok(found),
+            Err(fault) => Err(input.source.rejection(fault)),
+        }
+    }
+
+    // Returns which links may lead to blocks that aren't there.
+    fn allowed(&self) -> AllowMissing {
+        self.allowed.unwrap_or(AllowMissing::none())
+    }
+
+    // Verifies a file beside others for what is asked for, and shows how far it is. Returns the first place at which
+    // it isn't exactly that too, if it is to be.
+    fn wanted_findings<'f, R: Host>(
+        &self,
+        rt: &R,
+        input: &CarInput<'f>,
+        others: &[OtherFile],
+        wanted: &Wanted<'_>,
+        progress: &Progress<R>,
+    ) -> Result<(Findings, Option<Inexact>), Rejection<'f>> {
+        let (store, later_count) = self.store_of(rt, input, others)?;
+        match job_of(rt.alloc(), input, wanted, &store)? {
+            None => self.rootless_findings(rt, input, others, progress),
+            Some(job) => {
+                let mut judged = self.job_findings(rt, input, &store, &job, progress)?;
+                judged.0.later_count = later_count;
+                Ok(judged)
             }
         }
+    }
+
+    // Verifies a file whose header has no roots: nothing is asked for, and it is no export.
+    fn rootless_findings<'f, R: Host>(
+        &self,
+        rt: &R,
+        input: &CarInput<'f>,
+        others: &[OtherFile],
+        progress: &Progress<R>,
+    ) -> Result<(Findings, Option<Inexact>), Rejection<'f>> {
+        let inexact = if self.is_exact {
+            Some(inexact_header(rt.alloc())?)
+        } else {
+            None
+        };
+        Ok((self.findings(rt, input, others, progress)?, inexact))
+    }
+
+    // Loads the blocks of a file and of others, and returns how many are a later copy.
+    fn store_of<'f, R: Host>(
+        &self,
+        rt: &R,
+        input: &CarInput<'f>,
+        others: &[OtherFile],
+    ) -> Result<(Store, usize), Rejection<'f>> {
+        let (alloc, threads) = (rt.alloc(), self.threads.get());
+        match load_beside(rt, alloc, &input.car, others, self.copies, threads) {
+            Ok(loaded) => Ok(loaded),
+            Err(fault) => Err(input.source.rejection(fault)),
+        }
+    }
+
+    // Verifies a file for a job over a store, and shows how far it is. Returns the first place at which it isn't the
+    // export of the job too, if it is to be.
+    fn job_findings<'f, R: Host>(
+        &self,
+        rt: &R,
+        input: &CarInput<'f>,
+        store: &Store,
+        job: &Job,
+        progress: &Progress<R>,
+    ) -> Result<(Findings, Option<Inexact>), Rejection<'f>> {
+        let (alloc, threads, most) = (rt.alloc(), self.threads, self.most());
+        let observer = Observing { progress };
+        let walk = JobWalk {
+            store,
+            job,
+            allowed: self.allowed(),
+            observer: &observer,
+        };
+        let found = match verify_job(rt, alloc, &input.car, walk, threads, most) {
+            Ok(found) => found,
+            Err(fault) => return Err(input.source.rejection(fault)),
+        };
+        let inexact = if self.is_exact {
+            inexact_in(alloc, input.car.as_slice(), job)?
+        } else {
+            None
+        };
+        Ok((found, inexact))
+    }
+}
+
+// Returns the job of the roots of a file, or None if it has none.
+fn job_of<'f>(
+    alloc: Global,
+    input: &CarInput<'f>,
+    wanted: &Wanted<'_>,
+    store: &Store,
+) -> Result<Option<Job>, Rejection<'f>> {
+    match read_header(alloc, input.car.as_slice()) {
+        Ok((roots, _)) => wanted.job_in(alloc, input.source.path, roots.as_slice(), store),
+        Err(fault) => Err(input.source.rejection(fault)),
     }
 }
 
@@ -436,154 +450,4 @@ fn check_standard_input<'a>(alloc: Global, words: &ArgMatches<'a>) -> Result<(),
 // Returns how often standard input is among some files.
 fn times_of_input(paths: &[&str]) -> usize {
     paths.iter().filter(|path| **path == STANDARD_INPUT).count()
-}
-
-/// The report on a file.
-#[derive(Drop)]
-pub(crate) struct Report<'a> {
-    pub path: &'a str,
-    pub bytes: usize,
-    /// The offset in the file of the CARv1 file that was verified.
-    pub start: usize,
-    pub found: &'a Findings,
-    // How many findings are printed at most, and whether these are all, with the line of the file after them.
-    most: usize,
-    prints_all: bool,
-    is_json: bool,
-    /// Whether it is printed how many blocks are absent.
-    pub shows_absent: bool,
-}
-
-impl<'a> Report<'a> {
-    // Returns whether the file is sound.
-    fn is_sound(&self) -> bool {
-        self.found.outcome() == Outcome::Sound
-    }
-
-    /// Returns how many links are printed: with the sections no more than may be. The sections that were
-    /// kept are no more than may be printed.
-    pub(crate) fn links(&self) -> usize {
-        let sections = self.found.unsound.first.len();
-        let links = self.found.skips.first.len();
-        links.min(self.most.saturating_sub(sections))
-    }
-
-    /// Returns how many findings aren't printed.
-    pub(crate) fn more(&self) -> usize {
-        let Findings { unsound, skips, .. } = self.found;
-        let printed = unsound.first.len().saturating_add(self.links());
-        let findings = unsound.count.saturating_add(skips.count);
-        findings.saturating_sub(printed)
-    }
-}
-
-// Why a report isn't printed whole.
-#[derive(Drop)]
-enum Stop {
-    Memory,
-    Output(io::Error),
-}
-
-impl From<AllocError> for Stop {
-    fn from(_error: AllocError) -> Stop {
-        Stop::Memory
-    }
-}
-
-impl From<io::Error> for Stop {
-    fn from(error: io::Error) -> Stop {
-        Stop::Output(error)
-    }
-}
-
-// Prints the report on a file and returns its status. If the reader closed the pipe, the rest isn't
-// wanted.
-fn print_report<R: AllocGlobal + Print>(rt: &R, report: &Report<'_>) -> Result<u8, Failure> {
-    let status = if report.is_sound() { 0 } else { NOT_SOUND };
-    match write_report(rt, report) {
-        Ok(()) => Ok(status),
-        Err(Stop::Output(error)) if error.kind() == ErrorKind::BrokenPipe => Ok(status),
-        Err(Stop::Output(error)) => {
-            Err(Failure::cannot_write(rt.alloc(), STANDARD_INPUT, &error))
-        }
-        Err(Stop::Memory) => Err(Failure::Fault(RunFault::Memory)),
-    }
-}
-
-fn write_report<R: AllocGlobal + Print>(rt: &R, report: &Report<'_>) -> Result<(), Stop> {
-    let alloc = rt.alloc();
-    let mut output = BufWriter::new(alloc, io::writer(rt))?;
-    if report.is_json {
-        output.write_all(report_object(alloc, report)?.as_slice())?;
-    } else if report.prints_all {
-        write_findings(alloc, &mut output, report)?;
-        write_summary(alloc, &mut output, report)?;
-    } else {
-        write_summary(alloc, &mut output, report)?;
-        write_findings(alloc, &mut output, report)?;
-    }
-    output.flush()?;
-    Ok(())
-}
-
-// Writes the line of the file.
-fn write_summary<W: Write>(alloc: Global, output: &mut W, report: &Report<'_>) -> Result<(), Stop> {
-    let Report {
-        path,
-        bytes,
-        found,
-        ..
-    } = report;
-    let sections = found.sections;
-    let outcome = found.outcome();
-    let mut line = format!(in alloc; "{path} {outcome} sections={sections} bytes={bytes}")?;
-    if !report.is_sound() {
-        let (unsound, skips) = (found.unsound.count, found.skips.count);
-        line.push_str(format!(in alloc; " unsound={unsound} skips={skips}")?.as_str())?;
-    }
-    if report.shows_absent {
-        line.push_str(format!(in alloc; " absent={}", found.absent)?.as_str())?;
-    }
-    line.push('\n')?;
-    output.write_all(line.as_bytes())?;
-    Ok(())
-}
-
-// Writes a line for each finding, up to the most, then how many more there are, and whether the walk
-// ended at its limit.
-fn write_findings<W: Write>(
-    alloc: Global,
-    output: &mut W,
-    report: &Report<'_>,
-) -> Result<(), Stop> {
-    let found = report.found;
-    for section in &found.unsound.first {
-        write_section(output, report.start, section, section.cid.text(alloc))?;
-    }
-    for skip in found.skips.first.iter().take(report.links()) {
-        let (verdict, cid) = (skip.verdict, skip.cid.text(alloc)?);
-        writeln!(output, "  link {verdict} {cid}")?;
-    }
-    let more = report.more();
-    if more > 0 {
-        let line = format!(in alloc; "  and {more} more (--all prints each)\n")?;
-        output.write_all(line.as_bytes())?;
-    }
-    if found.is_over_limit {
-        output.write_all(b"  limit\n")?;
-    }
-    Ok(())
-}
-
-// Writes the line for a section with this CID, in a CARv1 file that begins at an offset.
-fn write_section<W: Write>(
-    output: &mut W,
-    start: usize,
-    section: &Unsound,
-    cid: Result<String, AllocError>,
-) -> Result<(), Stop> {
-    let (verdict, cid) = (section.verdict, cid?);
-    let place = start.saturating_add(section.place);
-    writeln!(output, "  section {place} {verdict} {cid}")?;
-    Ok(())
 }

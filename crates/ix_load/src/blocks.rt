@@ -6,13 +6,12 @@ ghost use Rattle.ix_car.specs.Payload.{IsWithin};
 use clap::ArgMatches;
 use clap::error::ErrorKind;
 use ix_base::Base;
-use ix_car::{BlockLoader, CarFault, CarKind, Payload, SoundLoader, payload_of, read_header};
+use ix_car::{BlockLoader, CarFault, Payload, SoundLoader, payload_of, read_header};
 use ix_cid::Cid;
 use ix_cli_io::{Failure, Progress, STANDARD_INPUT, load_input, size_of_all};
 use ix_inspect::{Kind, kind_of};
 use ix_options::{
-    ArgSpec, BLOCKS, CARV2_HEADER, CommandSpec, PREFER_SOUND, WITHOUT, is_of_carv2, later_note,
-    print_notes, words_of,
+    ArgSpec, BLOCKS, CommandSpec, PREFER_SOUND, WITHOUT, cause_of, later_note, print_notes,
 };
 use ix_run::RunFault;
 use ix_store::{PlaceSet, SoundStore, Store};
@@ -317,19 +316,6 @@ fn explained(
     match file {
         Some(path) => Ok(Failure::InFile(fault, String::from_str(alloc, path)?, cause)),
         None => Ok(Failure::Explained(fault, cause)),
-    }
-}
-
-// Returns what is known of the cause of an error in a file of this kind; nothing if memory ran out.
-fn cause_of(fault: &CarFault, kind: Kind) -> Option<&'static str> {
-    if fault.kind == CarKind::Memory {
-        None
-    } else if fault.place == 0 {
-        Some(words_of(kind))
-    } else if is_of_carv2(kind, fault) {
-        Some(CARV2_HEADER)
-    } else {
-        Some("ix_export inspect says how to keep the sections before it")
     }
 }
 

@@ -22,7 +22,7 @@ pub use export::{allowed_missing, forget_store};
 pub use known::{KnownInputs, refused_inputs};
 pub use paths::{RootPaths, Unresolved, obstacle_line, path_of};
 pub use roots::{
-    NoJobs, RootWords, Roots, SCOPE, Scope, no_jobs, no_roots, refused_roots, roots_note,
-    roots_text,
+    NoJobs, RootWords, Roots, SCOPE, SELECTOR, SELECTOR_HEX, SOME_ROOT, Scope, no_jobs, no_roots,
+    refused_roots, roots_note, roots_text,
 };
 pub use threads::{RunReport, ThreadCounts};

@@ -1,6 +1,7 @@
 //! The roots of the command `get`: CIDs, CIDs with a path, or those in the header of the first file.
 
 use crate::paths::{RootPaths, Unresolved};
+use clap::ArgMatches;
 use clap::error::ErrorKind;
 use ix_cid::Cid;
 use ix_cli_io::Failure;
@@ -9,8 +10,8 @@ use ix_options::{ArgKind, ArgSpec, CommandSpec};
 use ix_path::{GREATEST_SEGMENTS, MOST_SEGMENTS};
 use std::alloc::{AllocError, Global};
 
-// Without roots the other arguments are checked with this one: an identity CID without bytes.
-const SOME_ROOT: &str = "bafkqaaa";
+/// Without roots the other arguments are checked with this one: an identity CID without bytes.
+pub const SOME_ROOT: &str = "bafkqaaa";
 
 /// The selector of the node alone where it is, {".":{}}, as DAG-CBOR in hex.
 pub(crate) const MATCHER: &str = "a1612ea0";
@@ -23,6 +24,20 @@ pub const SCOPE: ArgSpec = ArgSpec {
     name: "scope",
     given: ArgKind::Optional("SCOPE"),
     help: "all below the end of the path, or its block alone",
+};
+
+/// The selector from the roots, or from where their path ends.
+pub const SELECTOR: ArgSpec = ArgSpec {
+    name: "selector",
+    given: ArgKind::ConflictsWithBoth("JSON", "selector-hex", "scope"),
+    help: "IPLD selector as JSON [default: everything]",
+};
+
+/// The same in hex.
+pub const SELECTOR_HEX: ArgSpec = ArgSpec {
+    name: "selector-hex",
+    given: ArgKind::ConflictsWith("HEX", "scope"),
+    help: "IPLD selector as DAG-CBOR in hex",
 };
 
 /// What is selected where a path ends, without a selector.
@@ -63,8 +78,20 @@ impl Scope {
         }
     }
 
-    // How many segments a path may have, so that the selector to its end nests no deeper than selectors do.
-    fn most_segments(self) -> usize {
+    /// Returns the selector among the arguments, or the one of the scope.
+    pub fn given_selector<'a>(self, words: &ArgMatches<'a>) -> SelectorWord<'a> {
+        match (
+            SELECTOR.optional_text(words),
+            SELECTOR_HEX.optional_text(words),
+        ) {
+            (None, Some(text)) => SelectorWord::Hex(text),
+            (json, _) => self.selector(json.map(|text| text.as_bytes())),
+        }
+    }
+
+    /// Returns how many segments a path may have, so that the selector to its end nests no deeper than selectors
+    /// do.
+    pub fn most_segments(self) -> usize {
         match self {
             Scope::All => MOST_SEGMENTS,
             Scope::Block => GREATEST_SEGMENTS,

@@ -1,6 +1,6 @@
 //! What a file is, in words.
 
-use ix_car::CarFault;
+use ix_car::{CarFault, CarKind};
 use ix_inspect::Kind;
 
 /// What is wrong with a CARv2 file whose payload can't be read.
@@ -24,5 +24,18 @@ pub fn words_of(kind: Kind) -> &'static str {
         Kind::Text => "plain text",
         Kind::Empty => "an empty file",
         Kind::Other => "not a CARv1 file",
+    }
+}
+
+/// Returns what is known of the cause of an error in a file of this kind; nothing if memory ran out.
+pub fn cause_of(fault: &CarFault, kind: Kind) -> Option<&'static str> {
+    if fault.kind == CarKind::Memory {
+        None
+    } else if fault.place == 0 {
+        Some(words_of(kind))
+    } else if is_of_carv2(kind, fault) {
+        Some(CARV2_HEADER)
+    } else {
+        Some("ix_export inspect says how to keep the sections before it")
     }
 }

@@ -23,7 +23,7 @@ mod size;
 pub use command::{CommandSpec, command_of};
 pub use file_output::output_path;
 pub use host::{Host, Terminals};
-pub use kinds::{CARV2_HEADER, is_of_carv2, words_of};
+pub use kinds::{CARV2_HEADER, cause_of, is_of_carv2, words_of};
 pub use options::{
     ALLOW_MISSING, ArgKind, ArgSpec, BLOCKS, CARV2, JSON, MAX_INPUT, MAX_INPUT_1G, MAX_LIMIT,
     NO_SYNC, PREFER_SOUND, PROGRESS, QUIET, QUIET_ACCEPTED, QUIET_PROGRESS, SYNC, VERBOSE,

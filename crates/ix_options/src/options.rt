@@ -41,6 +41,8 @@ pub enum ArgKind {
     Flag,
     /// A flag that conflicts with the argument of this name.
     FlagWithout(&'static str),
+    /// The same with several arguments.
+    FlagWithoutAll(&'static [&'static str]),
     /// A flag that says the opposite of the flag of this name. Of both the last one counts.
     FlagOver(&'static str),
     /// A required positional argument.
@@ -271,6 +273,7 @@ fn argument_of<'a>(alloc: Global, row: &'static ArgSpec) -> Result<Arg<'a>, Allo
         ArgKind::Limit => Ok(limit(alloc, row)),
         ArgKind::Flag => Ok(flag(alloc, row)),
         ArgKind::FlagWithout(other) => flag(alloc, row).conflicts_with(other),
+        ArgKind::FlagWithoutAll(others) => flag(alloc, row).conflicts_with_all(others),
         ArgKind::FlagOver(other) => flag(alloc, row).overrides_with_all(&[other, row.name]),
         ArgKind::Positional(value) => Ok(positional(alloc, row, value).required(true)),
         ArgKind::OptionalPositional(value) => Ok(positional(alloc, row, value)),
