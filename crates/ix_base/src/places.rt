@@ -7,7 +7,7 @@ ghost use Rattle.ix_base.specs.Findings.{pair_of, TakesIn, HasAllOf};
 ghost use Rattle.ix_base.specs.Batches.{AddsSections, IsFaultIn};
 
 use crate::batch::{no_memory, read_batch};
-use crate::finding::{Finding, findings_of};
+use crate::finding::{Finding, Lookup, findings_of};
 use ix_car::{CarFault, Section};
 use ix_store::{PlaceSet, Store};
 use std::alloc::{AllocError, Global};
@@ -49,34 +49,43 @@ impl Places {
     {
         let mut spare = Vec::new(alloc);
         let mut rest = sections;
+        let mut guess = 0;
         while !rest.is_empty() {
             let (batch, after) = read_batch(spare, size, rest)?;
-            let added = self.add_batch(rt, alloc, store, batch.as_slice(), threads);
-            if added.is_err() {
+            let added = self.add_batch(rt, alloc, store, guess, batch.as_slice(), threads);
+            let Ok(next) = added else {
                 return Err(no_memory(size - rest.len()));
-            }
+            };
+            guess = next;
             spare = batch;
             rest = after;
         }
         Ok(())
     }
 
-    // Adds what some sections say.
+    // Adds what some sections say. The block of the first may be at `guess` in the store, and the answer is
+    // where that of the section after them may be.
     fn add_batch<R: Threads + Sync>(
         &mut self,
         rt: &R,
         alloc: Global,
         store: &Store,
+        guess: usize,
         sections: &[Section<'_>],
         threads: usize,
-    ) -> Result<(), AllocError>
+    ) -> Result<usize, AllocError>
         ensures { OnOk result (AddsBlocks store.now self.old self.new (map pair_of sections.now)) }
     {
-        let findings = findings_of(rt, alloc, store, &self.decided, sections, threads)?;
+        let lookup = Lookup {
+            store,
+            decided: &self.decided,
+            guess,
+        };
+        let findings = findings_of(rt, alloc, &lookup, sections, threads)?;
         for finding in &findings {
             self.take_in(*finding)?;
         }
-        Ok(())
+        Ok(guess_after(guess, findings.as_slice()))
     }
 
     // Takes in what was found of one section more.
@@ -101,6 +110,19 @@ impl Places {
         put_if(&mut self.known, place, is_sound)?;
         self.decided.insert(place)
     }
+}
+
+// Returns where the block of the section after these may be in the store: after that of the last one that
+// was found.
+fn guess_after(guess: usize, findings: &[Finding]) -> usize {
+    let mut next = guess;
+    for finding in findings {
+        next = match finding {
+            Finding::CopyOf { place, is_sound: _ } => place.saturating_add(1),
+            Finding::Nothing | Finding::NoMemory => next.saturating_add(1),
+        };
+    }
+    next
 }
 
 // Inserts a position if it is to be in a set.

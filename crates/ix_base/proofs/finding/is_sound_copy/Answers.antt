@@ -1,4 +1,5 @@
-use Rattle.std.proofs.Common.{sym, ◌∙◌}
+use Rattle.std.proofs.Common.{sym, ap, ◌∙◌}
+use Rattle.ix_archive.specs.Archive.{is_sound}
 use Rattle.ix_store.proofs.Blocks.{place_within}
 use Rattle.ix_base.proofs.Copies.{known-copy}
 use Rattle.ix_base.proofs.finding.is_sound_copy.Goals as goal
@@ -8,4 +9,4 @@ bytes-requires c = place_within _ _ _ (sym c.requires)
 
 pub returns-then-eq : goal.returns-then-eq
 returns-then-eq c =
-    c.knows.ensures ∙ known-copy c.args.store.now c.args.place c.args.cid.now c.bytes.result.now c.args.block.now c.requires c.bytes.ensures (sym c.eq.ensures ∙ c.if-eq.true)
+    c.is_sound.ensures ∙ ap is_sound c.verdict_at.ensures ∙ known-copy c.args.store.now c.args.place c.args.cid.now c.bytes.result.now c.args.block.now c.requires c.bytes.ensures (sym c.eq.ensures ∙ c.if-eq.true)

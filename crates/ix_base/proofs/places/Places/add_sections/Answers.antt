@@ -1,6 +1,5 @@
 use Rattle.std.proofs.Common.{◌≡◌, length, sym, ◌∙◌, rules}
 use Rattle.std.proofs.lemmas.Result.{err_from_is_err_and}
-use Rattle.ix_store.proofs.Stores.{holds-at_ok}
 use Rattle.ix_base.proofs.Sections.{read-first, read-more, read-fault, read-all}
 use Rattle.ix_base.proofs.places.Places.add_sections.Goals as goal
 
@@ -15,9 +14,8 @@ returns-in_err-batch-clause-refused g c =
 
 pub loop-rest-preserved : goal.loop-rest-preserved
 loop-rest-preserved g c =
-    let added = holds-at_ok c.add_batch-added.result c.add_batch-added.ensures (sym c.is_err.ensures.value ∙ c.if-is_err.false) in
     read-more c.args.store.now c.args.self.now c.loop-rest.self c.args.sections.now c.loop-rest.rest.now c.loop-rest.invariant c.add_batch-added.new.self c.in_ok-batch.batch c.in_ok-batch.after c.in_ok-batch.ensures.read
-    (rw (sym c.as_slice.ensures.value) added)
+    (rw (sym c.as_slice.ensures.value) c.in-Ok.ensures)
 
 pub returns-clause-added : goal.returns-clause-added
 returns-clause-added g c =
