@@ -40,12 +40,12 @@ some_inside places b depth links old new is put value v =
 -- ---- the beginning
 
 -- where the roots wait, all of the walk is left
-pub starts : (store : Blocks) (number : ℕ) (job : JobMeaning) (b : Bool) (expanded : Option Going) (links : List PendingLink) (roots : List (List ℕ)) → IsFollowed job.selector → job.once ≡ b → expanded ≡ expanded_at_start b → links ≡ [] → roots ≡ job.roots
+pub starts : (store : Blocks) (number : ℕ) (job : JobMeaning) (b : Bool) (expanded : Option Going) (links : List PendingLink) (roots : List (List ℕ)) → IsFollowed job.selector → job.once ≡ b → expanded ≡ expanded_at_start store b → links ≡ [] → roots ≡ job.roots
     → list_left store number job.limit 0 expanded job.selector links roots ≡ whole_walk store number job
 starts store number job b expanded links roots is once none empty same =
     ap (λ (g : Option Going). list_left store number job.limit 0 g job.selector links roots) none
-    ∙ ap (λ (z : List PendingLink). list_left store number job.limit 0 (expanded_at_start b) job.selector z roots) empty
-    ∙ ap (λ (z : List (List ℕ)). list_left store number job.limit 0 (expanded_at_start b) job.selector [] z) same
+    ∙ ap (λ (z : List PendingLink). list_left store number job.limit 0 (expanded_at_start store b) job.selector z roots) empty
+    ∙ ap (λ (z : List (List ℕ)). list_left store number job.limit 0 (expanded_at_start store b) job.selector [] z) same
     ∙ arrives_all store number job b is once
 
 -- ---- visiting a link

@@ -1,12 +1,13 @@
 -- Whether a walk with link-visit-once expands a CID.
 use Rattle.std.proofs.Common.{◌≡◌, ◌⊎◌, inl, inr, ℕ, suc, ◌+◌, ◌-◌, Bool, true, false, List, [], ◌∷◌, map, get_or, refl, sym, ◌∙◌, ap, subst, arith}
-use Rattle.std.specs.Prelude.{Option, Some, None, option_map, option_and_then, nat_eq, ◌&&◌, ◌||◌, if◌then◌else◌, bytes_eq, slice_get}
+use Rattle.std.specs.Prelude.{Option, Some, None, option_map, option_and_then, nat_eq, ◌&&◌, ◌||◌, if◌then◌else◌, bytes_eq, slice_get, not}
+use Rattle.std.proofs.Math.Bool.{or-false}
 use Rattle.std.proofs.Math.Path.{fun_ext}
 use Rattle.std.proofs.lemmas.Bool.Decides.{nat_tests}
 use Rattle.std.proofs.lemmas.Option.{same_Some, get_or_from_slice_get, slice_get-map, slice_get-get_or}
 use Rattle.std.proofs.lemmas.Slice.Eq.{bytes_eq-Decides}
 use Rattle.std.specs.Cmp.{both_ways}
-use Rattle.std.proofs.lemmas.Bool.{eqb-true}
+use Rattle.std.proofs.lemmas.Bool.{and_parts, eqb-true}
 use Rattle.ix_cid.specs.Cid.{parts_of, digest_of, hash_function_of}
 use Rattle.ix_cid.specs.declared.hash_function.HashFunction.{HashFunction}
 use Rattle.ix_cid.specs.declared.hash_function.HashFunction.TheVariants.{Sha2_256, Sha2_512}
@@ -22,11 +23,12 @@ use Rattle.ix_verdict.proofs.Needs.{known-codec-Block, known-Block, hashed-Block
 use Rattle.ix_store.specs.Store.{Blocks, block_of, position_after, position_of, bytes_of, is_dag_cbor, value_of}
 use Rattle.ix_store.specs.Memo.{hash_matches, hash_matches_by}
 use Rattle.ix_walk.specs.Once.{is_sound_by, is_sound, sound_value}
-use Rattle.ix_walk.specs.Walking.{Going, nothing_expanded, expanded_also, data_inside, expanded_after, waiting}
+use Rattle.ix_walk.specs.Walking.{Going, is_barren, is_tagged, has_tag, barren_ones, expanded_also, data_inside, expanded_after, waiting}
 use Rattle.ix_walk.specs.VisitedSet.{has_expanded, is_same_going, IsNoted, expanded_of}
 use Rattle.ix_walk.specs.Arriving.{IsValue, Goes}
 use Rattle.ix_store.proofs.Blocks.{none_behind, some_after, block_at, place_within}
 use Rattle.ix_walk.proofs.Readings.{codec_known}
+use Rattle.ix_walk.proofs.Reached.{or_swap, or_among}
 
 -- bytes that compare as equal are equal
 bytes_same : (xs ys : List ℕ) → bytes_eq xs ys ≡ true → xs ≡ ys
@@ -128,20 +130,34 @@ going_at store c d places others (Some m) (Some n) p q =
     (λ e. subst (λ x. bytes_eq c x ≡ true) (one_after 0 m store c d p (q ∙ ap (λ (k : ℕ). Some k) (sym (eqb-true m n e)))) (bytes_are c))
     (λ e. subst (λ k. nat_eq m k ≡ true) (same_Some m n (sym p ∙ ap (position_of store) (bytes_same c d e) ∙ q)) (number_same m)))
 
+-- noted for the first time, whatever is below
+noted_at : (store : Blocks) (old new : VisitedSet) (c : List ℕ) (places : List Place) → IsNoted old new (position_of store c) c places true → (d : List ℕ) (others : List Place)
+    → has_expanded new (position_of store d) d others ≡ ((bytes_eq c d && same_residual places others) || has_expanded old (position_of store d) d others)
+noted_at store old new c places is d others =
+    is.1 (position_of store d) d others
+    ∙ ap (λ (b : Bool). b || has_expanded old (position_of store d) d others) (going_at store c d places others (position_of store c) (position_of store d) refl refl)
+
 -- noted for the first time
 pub noted_first : (store : Blocks) (old new : VisitedSet) (c : List ℕ) (places : List Place) → IsNoted old new (position_of store c) c places true → expanded_of store new ≡ expanded_also c places (expanded_of store old)
 noted_first store old new c places is = fun_ext (λ d. fun_ext (λ others.
-    is.1 (position_of store d) d others
-    ∙ ap (λ (b : Bool). b || expanded_of store old d others)
-    (going_at store c d places others (position_of store c) (position_of store d) refl refl)))
+    ap (λ (b : Bool). is_barren store d || b) (noted_at store old new c places is d others)
+    ∙ or_swap (is_barren store d) (bytes_eq c d && same_residual places others) (has_expanded old (position_of store d) d others)))
 
 -- what was expanded before is the same
 pub noted_again : (store : Blocks) (old new : VisitedSet) (c : List ℕ) (places : List Place) → IsNoted old new (position_of store c) c places false → expanded_of store new ≡ expanded_of store old
-noted_again store old new c places is = fun_ext (λ d. fun_ext (λ others. is.1 (position_of store d) d others))
+noted_again store old new c places is = fun_ext (λ d. fun_ext (λ others. ap (λ (b : Bool). is_barren store d || b) (is.1 (position_of store d) d others)))
+
+-- where nothing is below, too
+pub noted_barren : (store : Blocks) (old new : VisitedSet) (c : List ℕ) (places : List Place) → IsNoted old new (position_of store c) c places true → is_barren store c ≡ true → expanded_of store new ≡ expanded_of store old
+noted_barren store old new c places is none = fun_ext (λ d. fun_ext (λ others.
+    ap (λ (b : Bool). is_barren store d || b) (noted_at store old new c places is d others)
+    ∙ sym (or_among (is_barren store d) (bytes_eq c d && same_residual places others) (has_expanded old (position_of store d) d others)
+    (λ e. subst (λ (x : List ℕ). is_barren store x ≡ true) (bytes_same c d (and_parts (bytes_eq c d) (same_residual places others) e).0) none))))
 
 -- nothing at first
-pub none_expanded : (store : Blocks) (g : VisitedSet) → ((b : Option ℕ) (c : List ℕ) (places : List Place) → has_expanded g b c places ≡ false) → expanded_of store g ≡ nothing_expanded
-none_expanded store g none = fun_ext (λ c. fun_ext (λ places. none (position_of store c) c places))
+pub none_expanded : (store : Blocks) (g : VisitedSet) → ((b : Option ℕ) (c : List ℕ) (places : List Place) → has_expanded g b c places ≡ false) → expanded_of store g ≡ barren_ones store
+none_expanded store g none =
+    fun_ext (λ c. fun_ext (λ places. ap (λ (b : Bool). is_barren store c || b) (none (position_of store c) c places) ∙ or-false (is_barren store c)))
 
 -- ---- going in
 
@@ -162,18 +178,47 @@ stays : (store : Blocks) (c : List ℕ) (places : List Place) (depth : ℕ) (had
 stays store c places depth had has none same =
     record { inside = none; expanded = ap (λ (g : Going). Some g) same ∙ sym (ap (λ (o : Option Data). expanded_after o (waiting places depth c) (Some had)) none) }
 
--- so at a repeated visit nothing is expanded
+-- nothing is below a CID without the head of a tag in its bytes
+pub untagged_barren : (store : Blocks) (c b : List ℕ) → bytes_of store c ≡ Some b → has_tag b ≡ false → is_barren store c ≡ true
+untagged_barren store c b bytes none =
+    ap (λ (o : Option (List ℕ)). not (is_sound store c && is_tagged o)) bytes ∙ ap (λ (t : Bool). not (is_sound store c && t)) none ∙ either (is_sound store c) where
+      either : (s : Bool) → not (s && false) ≡ true
+      either true = refl
+      either false = refl
+
+-- nor below a damaged one
+pub damaged_barren : (store : Blocks) (c : List ℕ) → is_sound store c ≡ false → is_barren store c ≡ true
+damaged_barren store c damaged = ap (λ (s : Bool). not (s && is_tagged (bytes_of store c))) damaged
+
+-- below another something may be
+pub tagged_sound : (store : Blocks) (c b : List ℕ) → bytes_of store c ≡ Some b → has_tag b ≡ true → is_sound store c ≡ true → is_barren store c ≡ false
+tagged_sound store c b bytes tag sound =
+    ap (λ (o : Option (List ℕ)). not (is_sound store c && is_tagged o)) bytes ∙ ap (λ (t : Bool). not (is_sound store c && t)) tag ∙ ap (λ (s : Bool). not (s && true)) sound
+
+-- so at a first visit of such a CID nothing is expanded
+pub goes_barren : (store : Blocks) (c : List ℕ) (places : List Place) (depth : ℕ) (old new : VisitedSet) → IsNoted old new (position_of store c) c places true → is_barren store c ≡ true
+    → Goes store (waiting places depth c) (Some (expanded_of store old)) None (Some (expanded_of store new))
+goes_barren store c places depth old new is none =
+    stays store c places depth (expanded_of store old) (expanded_of store new)
+    (ap (λ (b : Bool). if (b || has_expanded old (position_of store c) c places) then None else sound_value store c) none) (noted_barren store old new c places is none)
+
+-- nor at a repeated visit
 pub goes_again : (store : Blocks) (c : List ℕ) (places : List Place) (depth : ℕ) (old new : VisitedSet) → IsNoted old new (position_of store c) c places false
     → Goes store (waiting places depth c) (Some (expanded_of store old)) None (Some (expanded_of store new))
 goes_again store c places depth old new is =
-    stays store c places depth (expanded_of store old) (expanded_of store new) (ap (λ (b : Bool). if b then None else sound_value store c) is.0) (noted_again store old new c places is)
+    stays store c places depth (expanded_of store old) (expanded_of store new)
+    (ap (λ (b : Bool). if (is_barren store c || b) then None else sound_value store c) is.0 ∙ expanded (is_barren store c)) (noted_again store old new c places is) where
+      expanded : (b : Bool) → (if (b || true) then None else sound_value store c) ≡ None
+      expanded true = refl
+      expanded false = refl
 
--- and at a first visit of a sound block its data are
-pub goes_first : (store : Blocks) (c : List ℕ) (places : List Place) (depth : ℕ) (old new : VisitedSet) (b : List ℕ) → is_sound_by (hash_function_of (parts_of c)) (digest_of c) (block_of store c) ≡ true
+-- and at a first visit of a sound block with the head of a tag its data are
+pub goes_first : (store : Blocks) (c : List ℕ) (places : List Place) (depth : ℕ) (old new : VisitedSet) (b : List ℕ) → is_barren store c ≡ false → is_sound_by (hash_function_of (parts_of c)) (digest_of c) (block_of store c) ≡ true
     → IsNoted old new (position_of store c) c places true → IsValue (value_of store c) (Some b) → Goes store (waiting places depth c) (Some (expanded_of store old)) (Some b) (Some (expanded_of store new))
-goes_first store c places depth old new b sound is value =
+goes_first store c places depth old new b linked sound is value =
     let inside : data_inside store (Some (expanded_of store old)) (waiting places depth c) ≡ Some value.0 =
-    ap (λ (x : Bool). if x then None else sound_value store c) is.0 ∙ ap (λ (x : Bool). if x then value_of store c else None) sound ∙ value.1 in
+    ap (λ (x : Bool). if (x || has_expanded old (position_of store c) c places) then None else sound_value store c) linked
+    ∙ ap (λ (x : Bool). if x then None else sound_value store c) is.0 ∙ ap (λ (x : Bool). if x then value_of store c else None) sound ∙ value.1 in
     record {
       inside = (value.0, inside, value.2);
       expanded = ap (λ (g : Going). Some g) (noted_first store old new c places is) ∙ sym (ap (λ (o : Option Data). expanded_after o (waiting places depth c) (Some (expanded_of store old))) inside);

@@ -1,4 +1,5 @@
 pub mod Names
+pub mod Tags
 pub mod Reached
 pub mod Stands
 pub mod Parts

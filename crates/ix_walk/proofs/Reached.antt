@@ -1,21 +1,26 @@
 -- The arrivals of a job are those where its roots wait, but for the root and the path, which a walk doesn't keep.
 use Rattle.std.proofs.Common.{◌≡◌, ℕ, zero, suc, ◌+◌, ◌-◌, ◌≤◌, Bool, true, false, List, [], ◌∷◌, ◌++◌, map, flat_map, take, refl, sym, ◌∙◌, ap, subst, append-nil, arith}
-use Rattle.std.specs.Prelude.{Option, Some, None, ◌&&◌, bytes_eq, if◌then◌else◌}
+use Rattle.std.specs.Prelude.{Option, Some, None, option_and_then, ◌&&◌, ◌||◌, not, bytes_eq, if◌then◌else◌}
 use Rattle.std.specs.List.{list_any}
+use Rattle.std.proofs.Math.Bool.{or-false}
+use Rattle.std.proofs.lemmas.Bool.{false≢true, and_parts, not-true}
+use Rattle.std.proofs.lemmas.Slice.Eq.{bytes_eq-Decides}
 use Rattle.std.proofs.lemmas.List.{map-append}
 use Rattle.std.proofs.lemmas.Grind.{flat_map-append}
 use Rattle.ix_cbor.specs.Data as nodes
 use Rattle.ix_cbor.specs.Data.{Data, Items, Entries, null, boolean, integer, float, bytes, text, list, link, no_items, item, no_entries, entry}
+use Rattle.ix_cbor.specs.Reading.{data_at}
 use Rattle.ix_selector.specs.Enters.{Step, key, nth, Path}
 use Rattle.ix_selector.specs.Residual.{Place}
 use Rattle.ix_walk.specs.declared.subtree.PendingLink.{PendingLink}
 use Rattle.ix_walk.specs.Arrivals.{Arrival, Crossing, behind, arrivals_below, arrivals_in_items, arrivals_in_entries, Inside, when_some, arrivals_at, arrivals_from}
-use Rattle.ix_store.specs.Store.{Blocks, value_of}
-use Rattle.ix_walk.specs.Once.{roots_from, expanded_at, sound_value, once, once_from}
+use Rattle.ix_store.specs.Store.{Blocks, bytes_of, is_dag_cbor, value_of}
+use Rattle.ix_walk.specs.Once.{roots_from, expanded_at, is_sound, sound_value, once, once_from}
 use Rattle.ix_walk.specs.Once as going
 use Rattle.ix_walk.specs.Visits.{visits_from, visit_of}
 use Rattle.ix_selector.specs.Behind.{residual_after, same_residual}
-use Rattle.ix_walk.specs.Walking.{arrival, waiting, when_entered, links_below, links_in_items, links_in_entries, links_inside, Going, nothing_expanded, expanded_after, first_arrivals, HaveDepths}
+use Rattle.ix_walk.specs.Walking.{arrival, waiting, when_entered, links_below, links_in_items, links_in_entries, links_inside, is_tagged, is_barren, barren_ones, Going, nothing_expanded, expanded_also, data_inside, expanded_after, first_arrivals, HaveDepths}
+use Rattle.ix_walk.proofs.Tags.{untagged}
 
 -- an arrival without its root and its path
 abbrev pub forget : Arrival → Arrival
@@ -24,6 +29,18 @@ forget a = arrival a.depth a.cid
 -- the arrival at a link alone
 abbrev one : ℕ → ℕ → Crossing
 one root depth c p = record { root = root; path = p; depth = depth; cid = c } ∷ []
+
+-- tests in another order
+pub or_swap : (a b c : Bool) → (a || (b || c)) ≡ (b || (a || c))
+or_swap true true c = refl
+or_swap true false c = refl
+or_swap false b c = refl
+
+-- one more among two tests, which implies the first
+pub or_among : (a b c : Bool) → (b ≡ true → a ≡ true) → (a || c) ≡ (a || (b || c))
+or_among true b c h = refl
+or_among false true c h = absurd (false≢true (h refl))
+or_among false false c h = refl
 
 -- something is left of a selector
 abbrev pub is_left : List Place → Bool
@@ -241,26 +258,115 @@ module _ (enters : Path → Bool) (left : Path → List Place) (stays : (p : Pat
   test_of expanded c places = list_any (λ g. bytes_eq g.0 c && same_residual g.1 places) expanded
 
   module _ (store : Blocks) where
-    expanded_same : (value : Option Data) (a : Arrival) (expanded : List (List ℕ × List Place)) → expanded_after value (link_of a) (Some (test_of expanded)) ≡ Some (test_of (going.expanded_after enters left same_residual (sound_value store) value a expanded))
-    expanded_same None a expanded = refl
-    expanded_same (Some d) a expanded = refl
+    -- what is below an arrival, if it is expanded
+    abbrev below : Option Data → Arrival → List Arrival
+    below value a = when_some value (λ d. going.links_below enters d a)
 
-    once_are : (n : ℕ) (expanded : List (List ℕ × List Place)) (waits : List Arrival)
-        → first_arrivals store (Some (test_of expanded)) n (map link_of waits) ≡ map forget (once enters left same_residual (sound_value store) n expanded waits)
-    once_are zero expanded waits = refl
-    once_are (suc n) expanded [] = refl
-    once_are (suc n) expanded (a ∷ more) =
-        let value = expanded_at enters left same_residual (sound_value store) expanded a in
-        let below = when_some value (λ d. going.links_below enters d a) in
-        let wait : map link_of (below ++ more) ≡ links_inside (left a.path) (a.depth + 1) value ++ map link_of more =
-        map-append link_of below more ∙ ap (λ z. z ++ map link_of more) (links_of a.root (a.depth + 1) value a.path) in
-        ap (λ z. forget a ∷ first_arrivals store (expanded_after value (link_of a) (Some (test_of expanded))) n z) (sym wait)
-        ∙ ap (λ g. forget a ∷ first_arrivals store g n (map link_of (below ++ more))) (expanded_same value a expanded)
-        ∙ ap (λ z. forget a ∷ z) (once_are n (going.expanded_after enters left same_residual (sound_value store) value a expanded) (below ++ more))
+    -- nothing below the CIDs that pass a test is visited
+    abbrev AreBarren : (List ℕ → Bool) → Type 0
+    AreBarren test = (a : Arrival) → test a.cid ≡ true → below (sound_value store a.cid) a ≡ []
+
+    module _ (test : List ℕ → Bool) (barren : AreBarren test) where
+      -- a walk takes a CID for expanded at a path exactly if it passes the test or was expanded
+      abbrev Follows : Going → List (List ℕ × List Place) → Type 0
+      Follows g expanded = (c : List ℕ) (p : Path) → g c (left p) ≡ (test c || test_of expanded c (left p))
+
+      -- what was expanded after an arrival
+      abbrev after : Option Data → Arrival → List (List ℕ × List Place) → List (List ℕ × List Place)
+      after value a expanded = going.expanded_after enters left same_residual (sound_value store) value a expanded
+
+      -- what a walk has then expanded
+      abbrev going_after : Option Data → Arrival → Going → Going
+      going_after None a g = g
+      going_after (Some d) a g = expanded_also a.cid (left a.path) g
+
+      going_same : (value : Option Data) (a : Arrival) (g : Going) → expanded_after value (link_of a) (Some g) ≡ Some (going_after value a g)
+      going_same None a g = refl
+      going_same (Some d) a g = refl
+
+      -- it follows if both expand a CID
+      follows_both : (value : Option Data) (a : Arrival) (g : Going) (expanded : List (List ℕ × List Place)) → Follows g expanded → Follows (going_after value a g) (after value a expanded)
+      follows_both None a g expanded follows = follows
+      follows_both (Some d) a g expanded follows = λ c p.
+          ap (λ (b : Bool). (bytes_eq a.cid c && same_residual (left a.path) (left p)) || b) (follows c p)
+          ∙ or_swap (bytes_eq a.cid c && same_residual (left a.path) (left p)) (test c) (test_of expanded c (left p))
+
+      -- and if only the other does, one that passes the test
+      follows_one : (value : Option Data) (a : Arrival) (g : Going) (expanded : List (List ℕ × List Place)) → test a.cid ≡ true → Follows g expanded → Follows g (after value a expanded)
+      follows_one None a g expanded is follows = follows
+      follows_one (Some d) a g expanded is follows = λ c p. follows c p ∙ or_among (test c) (bytes_eq a.cid c && same_residual (left a.path) (left p)) (test_of expanded c (left p)) (passes c p) where
+        passes : (c : List ℕ) (p : Path) → (bytes_eq a.cid c && same_residual (left a.path) (left p)) ≡ true → test c ≡ true
+        passes c p both =
+            let parts = and_parts (bytes_eq a.cid c) (same_residual (left a.path) (left p)) both in
+            subst (λ (e : List ℕ). test e ≡ true) ((bytes_eq-Decides a.cid c).0 parts.0) is
+
+      -- the first visits of a walk that follows
+      abbrev Agrees : ℕ → Type 0
+      Agrees n =
+          (g : Going) (expanded : List (List ℕ × List Place)) (waits : List Arrival) → Follows g expanded
+          → first_arrivals store (Some g) n (map link_of waits) ≡ map forget (once enters left same_residual (sound_value store) n expanded waits)
+
+      module _ (n : ℕ) (agrees : Agrees n) (g : Going) (expanded : List (List ℕ × List Place)) (a : Arrival) (more : List Arrival) (follows : Follows g expanded) where
+        -- what the definition expands
+        abbrev value : Option Data
+        value = expanded_at enters left same_residual (sound_value store) expanded a
+
+        -- the visits after that if the walk expands this
+        abbrev behind_it : Option Data → List Arrival
+        behind_it o = first_arrivals store (expanded_after o (link_of a) (Some g)) n (links_inside (left a.path) (a.depth + 1) o ++ map link_of more)
+
+        -- what the walk expands
+        data_by : (b : Bool) → test a.cid ≡ b → data_inside store (Some g) (link_of a) ≡ (if (b || test_of expanded a.cid (left a.path)) then None else sound_value store a.cid)
+        data_by b is = ap (λ (x : Bool). if x then None else sound_value store a.cid) (follows a.cid a.path ∙ ap (λ (x : Bool). x || test_of expanded a.cid (left a.path)) is)
+
+        agrees_after : (b : Bool) → test a.cid ≡ b
+            → first_arrivals store (Some g) (suc n) (map link_of (a ∷ more)) ≡ map forget (once enters left same_residual (sound_value store) (suc n) expanded (a ∷ more))
+        agrees_after true is =
+            ap (λ (o : Option Data). forget a ∷ behind_it o) (data_by true is)
+            ∙ ap (λ (z : List Arrival). forget a ∷ z) (agrees g (after value a expanded) more (follows_one value a g expanded is follows))
+            ∙ ap (λ (z : List Arrival). forget a ∷ map forget (once enters left same_residual (sound_value store) n (after value a expanded) (z ++ more))) (sym (skipped (test_of expanded a.cid (left a.path)))) where
+              skipped : (b : Bool) → below (if b then None else sound_value store a.cid) a ≡ []
+              skipped true = refl
+              skipped false = barren a is
+        agrees_after false is =
+            let wait : map link_of (below value a ++ more) ≡ links_inside (left a.path) (a.depth + 1) value ++ map link_of more =
+            map-append link_of (below value a) more ∙ ap (λ z. z ++ map link_of more) (links_of a.root (a.depth + 1) value a.path) in
+            ap (λ (o : Option Data). forget a ∷ behind_it o) (data_by false is)
+            ∙ ap (λ (z : List PendingLink). forget a ∷ first_arrivals store (expanded_after value (link_of a) (Some g)) n z) (sym wait)
+            ∙ ap (λ (h : Option Going). forget a ∷ first_arrivals store h n (map link_of (below value a ++ more))) (going_same value a g)
+            ∙ ap (λ (z : List Arrival). forget a ∷ z) (agrees (going_after value a g) (after value a expanded) (below value a ++ more) (follows_both value a g expanded follows))
+
+      once_are : (n : ℕ) → Agrees n
+      once_are zero g expanded waits follows = refl
+      once_are (suc n) g expanded [] follows = refl
+      once_are (suc n) g expanded (a ∷ more) follows = agrees_after n (once_are n) g expanded a more follows (test a.cid) refl
 
     -- the first visits if the roots wait and nothing was expanded
     pub once_first : (n : ℕ) (cs : List (List ℕ)) → first_arrivals store (Some nothing_expanded) n (map (waiting (left []) 0) cs) ≡ map forget (once_from enters left same_residual (sound_value store) n cs)
-    once_first n cs = ap (first_arrivals store (Some nothing_expanded) n) (sym (wait_from 0 cs)) ∙ once_are n [] (roots_from 0 cs)
+    once_first n cs =
+        ap (first_arrivals store (Some nothing_expanded) n) (sym (wait_from 0 cs))
+        ∙ once_are (λ c. false) (λ a is. absurd (false≢true is)) n nothing_expanded [] (roots_from 0 cs) (λ c p. refl)
+
+    -- nothing below a barren CID is visited
+    barren : AreBarren (is_barren store)
+    barren a is = by (is_sound store a.cid) (is_tagged (bytes_of store a.cid)) refl (not-true _ is) where
+      valued : (dag : Bool) (o : Option (List ℕ)) → is_tagged o ≡ false → below (if dag then option_and_then data_at o else None) a ≡ []
+      valued false o none = refl
+      valued true None none = refl
+      valued true (Some b) none = spelled (data_at b) refl where
+        spelled : (o : Option Data) → data_at b ≡ o → below o a ≡ []
+        spelled None e = refl
+        spelled (Some d) e = untagged enters (one a.root (a.depth + 1)) b d a.path e none
+
+      by : (sound tagged : Bool) → is_tagged (bytes_of store a.cid) ≡ tagged → (sound && tagged) ≡ false → below (if sound then value_of store a.cid else None) a ≡ []
+      by false tagged is none = refl
+      by true tagged is none = valued (is_dag_cbor a.cid) (bytes_of store a.cid) (is ∙ none)
+
+    -- the first visits if the roots wait and barren CIDs aren't expanded
+    pub late_first : (n : ℕ) (cs : List (List ℕ)) → first_arrivals store (Some (barren_ones store)) n (map (waiting (left []) 0) cs) ≡ map forget (once_from enters left same_residual (sound_value store) n cs)
+    late_first n cs =
+        ap (first_arrivals store (Some (barren_ones store)) n) (sym (wait_from 0 cs))
+        ∙ once_are (is_barren store) barren n (barren_ones store) [] (roots_from 0 cs) (λ c p. sym (or-false (is_barren store c)))
 
 -- visits show neither a root nor a path
 pub visits_forget : (store : Blocks) (number seq : ℕ) (xs : List Arrival) → visits_from store number seq (map forget xs) ≡ visits_from store number seq xs

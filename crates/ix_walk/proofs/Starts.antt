@@ -18,9 +18,9 @@ use Rattle.ix_selector.specs.Behind.{residual_of, residual_after, residual_along
 use Rattle.ix_walk.specs.Once.{once_arrivals}
 use Rattle.ix_walk.specs.Visits.{believed, visits_from, whole_walk}
 use Rattle.ix_walk.specs.WalkLeft.{WalkLeft}
-use Rattle.ix_walk.specs.Walking.{waiting, first_arrivals, Subtree, or_nil, links_left, stands, with_next, frontier_stands, walk_left, IsWalk, Going, nothing_expanded}
+use Rattle.ix_walk.specs.Walking.{waiting, first_arrivals, Subtree, or_nil, links_left, stands, with_next, frontier_stands, walk_left, IsWalk, Going, barren_ones}
 use Rattle.ix_walk.specs.Arriving.{trail_left}
-use Rattle.ix_walk.proofs.Reached.{forget, is_left, first_from, visits_forget, once_first}
+use Rattle.ix_walk.proofs.Reached.{forget, is_left, first_from, visits_forget, late_first}
 
 -- equal visits and limits make equal walks
 same_left : (visits more : List Visit) (limited over : Bool) → visits ≡ more → limited ≡ over
@@ -74,9 +74,9 @@ over : (limit : ℕ) (n : ℕ) → nat_lt limit (min (suc limit) n) ≡ nat_lt l
 over limit n = grind (arith, nat_tests)
 
 -- where a walk with link-visit-once begins, and one that expands a CID at every link
-abbrev pub expanded_at_start : Bool → Option Going
-expanded_at_start true = Some nothing_expanded
-expanded_at_start false = None
+abbrev pub expanded_at_start : Blocks → Bool → Option Going
+expanded_at_start store true = Some (barren_ones store)
+expanded_at_start store false = None
 
 -- the visits of a job from one arrival more than its limit
 from_first : (store : Blocks) (number limit : ℕ) (expanded : Option Going) (links : List PendingLink) (all : List Arrival) → first_arrivals store expanded (suc limit) links ≡ map forget all
@@ -94,12 +94,12 @@ from_first store number limit expanded links all first =
 
 -- where the roots wait, all that the job arrives at is left
 pub arrives_all : (store : Blocks) (number : ℕ) (job : JobMeaning) (b : Bool) → IsFollowed job.selector → job.once ≡ b
-    → walk_left store number job.limit 0 (expanded_at_start b) (map (waiting (residual_of job.selector) 0) job.roots) false ≡ whole_walk store number job
+    → walk_left store number job.limit 0 (expanded_at_start store b) (map (waiting (residual_of job.selector) 0) job.roots) false ≡ whole_walk store number job
 arrives_all store number job true is once =
     let all = once_arrivals store job (residual_at job.selector) same_residual in
-    from_first store number job.limit (Some nothing_expanded) (map (waiting (residual_of job.selector) 0) job.roots) all
-    (ap (λ r. first_arrivals store (Some nothing_expanded) (suc job.limit) (map (waiting r 0) job.roots)) (sym is.starts)
-    ∙ once_first (is_entered job.selector) (residual_at job.selector) is.stays is.goes store (suc job.limit) job.roots)
+    from_first store number job.limit (Some (barren_ones store)) (map (waiting (residual_of job.selector) 0) job.roots) all
+    (ap (λ r. first_arrivals store (Some (barren_ones store)) (suc job.limit) (map (waiting r 0) job.roots)) (sym is.starts)
+    ∙ late_first (is_entered job.selector) (residual_at job.selector) is.stays is.goes store (suc job.limit) job.roots)
     ∙ same_left _ _ _ _
     (ap (λ (b : Bool). visits_from store number 0 (take job.limit (if b then all else believed store job))) (sym once))
     (ap (λ (b : Bool). nat_lt job.limit (length (if b then all else believed store job))) (sym once))
@@ -114,15 +114,15 @@ arrives_all store number job false is once =
 
 -- at its beginning a walk has all its roots before it
 starts_walk : (store : Blocks) (number : ℕ) (job : JobMeaning) (t : Frontier) (b : Bool) → IsFollowed job.selector → job.once ≡ b → frontier_stands t ≡ Some []
-    → trail_left store number job.limit 0 (expanded_at_start b) job.selector t job.roots ≡ whole_walk store number job
+    → trail_left store number job.limit 0 (expanded_at_start store b) job.selector t job.roots ≡ whole_walk store number job
 starts_walk store number job t b is once empty =
-    ap (λ (o : Option (List Subtree)). walk_left store number job.limit 0 (expanded_at_start b) (links_left job.selector (or_nil o) job.roots) false) empty ∙ arrives_all store number job b is once
+    ap (λ (o : Option (List Subtree)). walk_left store number job.limit 0 (expanded_at_start store b) (links_left job.selector (or_nil o) job.roots) false) empty ∙ arrives_all store number job b is once
 
 -- the same where its roots and what it has expanded have other names
-pub starts_from : (store : Blocks) (number : ℕ) (job : JobMeaning) (t : Frontier) (b : Bool) (expanded : Option Going) (roots : List (List ℕ)) → IsFollowed job.selector → job.once ≡ b → expanded ≡ expanded_at_start b → roots ≡ job.roots
+pub starts_from : (store : Blocks) (number : ℕ) (job : JobMeaning) (t : Frontier) (b : Bool) (expanded : Option Going) (roots : List (List ℕ)) → IsFollowed job.selector → job.once ≡ b → expanded ≡ expanded_at_start store b → roots ≡ job.roots
     → frontier_stands t ≡ Some [] → trail_left store number job.limit 0 expanded job.selector t roots ≡ whole_walk store number job
 starts_from store number job t b had roots is once none same empty =
-    ap (λ (g : Option Going). trail_left store number job.limit 0 g job.selector t roots) none ∙ ap (λ (cs : List (List ℕ)). trail_left store number job.limit 0 (expanded_at_start b) job.selector t cs) same
+    ap (λ (g : Option Going). trail_left store number job.limit 0 g job.selector t roots) none ∙ ap (λ (cs : List (List ℕ)). trail_left store number job.limit 0 (expanded_at_start store b) job.selector t cs) same
     ∙ starts_walk store number job t b is once empty
 
 -- and is before its first root

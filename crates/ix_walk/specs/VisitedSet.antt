@@ -11,7 +11,7 @@ use Rattle.ix_selector.specs.Behind.{same_residual, residual_order}
 use Rattle.ix_walk.specs.declared.visited_set.VisitedSet.{VisitedSet}
 use Rattle.ix_store.specs.PlaceSet.{contains_place}
 use Rattle.ix_store.specs.Store.{Blocks, position_of}
-use Rattle.ix_walk.specs.Walking.{Going}
+use Rattle.ix_walk.specs.Walking.{Going, is_barren}
 
 -- a position is among these, if there are any
 abbrev pub is_in : ℕ → Option (BTreeSet ℕ) → Bool
@@ -53,9 +53,9 @@ IsNotedBlock old new place places result = (c : List ℕ) → IfOk result (IsNot
 abbrev pub HasExpandedNothing : VisitedSet → Type 0
 HasExpandedNothing g = (block : Option ℕ) (c : List ℕ) (places : List Place) → has_expanded g block c places ≡ false
 
--- in a store: whether a CID was expanded with a residual
+-- in a store: whether a CID isn't to be expanded with a residual: nothing below it is visited, or it was expanded
 abbrev pub expanded_of : Blocks → VisitedSet → Going
-expanded_of store g c places = has_expanded g (position_of store c) c places
+expanded_of store g c places = is_barren store c || has_expanded g (position_of store c) c places
 
 -- what a walk keeps of it, if it expands CIDs once
 abbrev pub going_of : Blocks → Option VisitedSet → Option Going

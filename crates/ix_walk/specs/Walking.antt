@@ -1,5 +1,5 @@
 -- What a walk is about to return, by what it keeps.
-use Rattle.std.specs.Prelude.{◌≡◌, ℕ, zero, suc, ◌+◌, ◌-◌, ◌≤◌, Bool, true, false, List, [], ◌∷◌, ◌++◌, length, map, reverse, take, Option, Some, None, option_map, option_and_then, Ok, nat_lt, ◌==◌, ◌&&◌, ◌||◌, bytes_eq, if◌then◌else◌}
+use Rattle.std.specs.Prelude.{◌≡◌, ℕ, zero, suc, ◌+◌, ◌-◌, ◌≤◌, Bool, true, false, List, [], ◌∷◌, ◌++◌, length, map, reverse, take, Option, Some, None, option_map, option_and_then, Ok, not, nat_le, nat_lt, ◌==◌, ◌&&◌, ◌||◌, bytes_eq, if◌then◌else◌}
 use Rattle.std.specs.Result.{result_ok}
 use Rattle.ix_cbor.specs.Data as nodes
 use Rattle.ix_cbor.specs.Data.{Data, Items, Entries, null, boolean, integer, float, bytes, text, list, link, no_items, item, no_entries, entry}
@@ -14,9 +14,9 @@ use Rattle.ix_walk.specs.declared.subtree.Children.TheVariants.{Members, Values}
 use Rattle.ix_walk.specs.declared.subtree.OpenNode.{OpenNode}
 use Rattle.ix_walk.specs.declared.subtree.Frontier.{Frontier}
 use Rattle.ix_walk.specs.declared.subtree.PendingLink.{PendingLink}
-use Rattle.ix_store.specs.Store.{Blocks, value_of}
+use Rattle.ix_store.specs.Store.{Blocks, bytes_of, value_of}
 use Rattle.ix_walk.specs.Arrivals.{Arrival}
-use Rattle.ix_walk.specs.Once.{sound_value}
+use Rattle.ix_walk.specs.Once.{is_sound, sound_value}
 use Rattle.ix_walk.specs.Visits.{visits_from}
 use Rattle.ix_walk.specs.WalkLeft.{WalkLeft, nothing_left}
 
@@ -62,6 +62,25 @@ abbrev pub links_inside : List Place → ℕ → Option Data → List PendingLin
 links_inside places depth None = []
 links_inside places depth (Some d) = links_below places depth d
 
+-- these bytes begin with this one
+abbrev pub begins_with : ℕ → List ℕ → Bool
+begins_with n [] = false
+begins_with n (x ∷ xs) = x == n
+
+-- a link may be in these bytes: the head of its tag is in them, 0xd8 0x2a, or a number that is no byte
+abbrev pub has_tag : List ℕ → Bool
+has_tag [] = false
+has_tag (x ∷ xs) = nat_le 256 x || ((x == 0xd8 && begins_with 0x2a xs) || has_tag xs)
+
+-- the same of bytes that may be absent
+abbrev pub is_tagged : Option (List ℕ) → Bool
+is_tagged None = false
+is_tagged (Some b) = has_tag b
+
+-- nothing below a CID is visited: its block isn't sound, or no link is in it
+abbrev pub is_barren : Blocks → List ℕ → Bool
+is_barren store c = not (is_sound store c && is_tagged (bytes_of store c))
+
 -- what was expanded: CIDs, each with the residual there
 abbrev pub Going : Type 0
 Going = List ℕ → List Place → Bool
@@ -69,6 +88,10 @@ Going = List ℕ → List Place → Bool
 -- nothing was expanded
 abbrev pub nothing_expanded : Going
 nothing_expanded c places = false
+
+-- the CIDs below which nothing is visited, as if they were expanded: whether they are changes no visit
+abbrev pub barren_ones : Blocks → Going
+barren_ones store c places = is_barren store c
 
 -- this, and what was expanded before
 abbrev pub expanded_also : List ℕ → List Place → Going → Going

@@ -10,7 +10,8 @@ use ix_store::PlaceSet;
 use std::alloc::{AllocError, Global};
 use std::collections::{BTreeMap, BTreeSet};
 
-/// The CIDs that a walk has expanded, each with the residual of the selector there.
+/// The CIDs that a walk has expanded or found nothing to expand in, each with the residual of the
+/// selector there.
 #[derive(Drop)]
 pub struct VisitedSet<'a> {
     // The residual at a root. A selector of everything has it at every block.
@@ -37,8 +38,8 @@ impl<'a> VisitedSet<'a> {
         })
     }
 
-    // Records that the walk expands a CID, whose block has this position. Returns whether it never
-    // did with that residual.
+    // Records a CID, whose block has this position. Returns whether it wasn't recorded with that
+    // residual.
     pub(crate) fn insert(
         &mut self,
         alloc: Global,

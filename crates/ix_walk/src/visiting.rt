@@ -1,13 +1,13 @@
 //! Visiting a link.
 
-ghost use Rattle.std.specs.Prelude.{◌≡◌, ◌&&◌, ◌+◌, ◌<◌, ◌^◌, IfOk, IfSome, OnOk, None, option_map, is_none};
+ghost use Rattle.std.specs.Prelude.{◌≡◌, ◌&&◌, ◌+◌, ◌<◌, ◌^◌, IfOk, IfSome, OnOk, None, Some, option_map, is_none};
 ghost use Rattle.ix_cbor.specs.Reading.{data_at};
 ghost use Rattle.ix_verdict.specs.Verdict.{has_codec};
-ghost use Rattle.ix_store.specs.Store.{value_of};
+ghost use Rattle.ix_store.specs.Store.{bytes_of, value_of};
 ghost use Rattle.ix_walk.specs.Once.{is_sound};
 ghost use Rattle.ix_walk.specs.Descent.{IsItem};
 ghost use Rattle.ix_walk.specs.Arriving.{known_bytes, IsPositionOf, IsValue, IsReading, GoesInto, Roots, Arrives, FindsNext, TakesNext};
-ghost use Rattle.ix_walk.specs.Walking.{IsStanding, IsWalk};
+ghost use Rattle.ix_walk.specs.Walking.{has_tag, IsStanding, IsWalk};
 
 use crate::descent::{next_found, node_at};
 use crate::fault::WalkStop;
@@ -56,6 +56,7 @@ pub fn read_block<'a>(
     block: Option<usize>,
 ) -> (Option<Cursor<'a>>, bool)
     requires { IsPositionOf store.now cid.now block }
+    ensures bytes { IfSome result.0 (λ b. bytes_of store.now cid.now ≡ Some b) }
     ensures reading { IsReading store.now cid.now result.0 result.1 }
     ensures item { IfSome result.0 (λ b. IsItem b) }
 {
@@ -85,9 +86,24 @@ fn is_sound(store: &Store, visit: &Visit) -> bool
     }
 }
 
+// Whether the head of a link's tag is in the bytes of a block: without it no link is.
+fn has_tag(block: &[u8]) -> bool
+    ensures { result ≡ has_tag block.now }
+{
+    let mut rest = block;
+    while let Some((first, behind)) = rest.split_first() {
+        if *first == 0xd8 && matches!(behind.first(), Some(0x2a)) {
+            return true;
+        }
+        rest = behind;
+    }
+    false
+}
+
 /// Returns the bytes that a walk expands at a visit, of those that its CID names. A walk that
-/// records what it expanded returns them only if they match the CID, and only once for each CID and
-/// residual, which it then records; any other returns them always.
+/// records what it expanded returns them only at the first visit of a CID with a residual, which it
+/// then records, and only if they match the CID and the head of a link's tag is in them; any other
+/// returns them always. Bytes without that head are not hashed.
 pub fn bytes_to_expand<'a, 's>(
     alloc: Global,
     store: &'a Store,
@@ -97,6 +113,7 @@ pub fn bytes_to_expand<'a, 's>(
     bytes: Option<Cursor<'a>>,
 ) -> Result<Option<Cursor<'a>>, AllocError>
     requires block { IsPositionOf store.now visit.now.cid visit.now.block }
+    requires bytes { IfSome bytes (λ b. bytes_of store.now visit.now.cid ≡ Some b) }
     requires value { IsValue (value_of store.now visit.now.cid) bytes }
     requires item { IfSome bytes (λ b. IsItem b) }
     ensures goes { IfOk result (λ b. GoesInto store.now residual.now visit.now.cid expanded.old b expanded.new) }
@@ -108,11 +125,17 @@ pub fn bytes_to_expand<'a, 's>(
     let Some(bytes) = bytes else {
         return Ok(None);
     };
+    let is_first = expanded.insert(alloc, &visit.cid, visit.block, residual)?;
+    if !is_first {
+        return Ok(None);
+    }
+    if !has_tag(bytes.bytes()) {
+        return Ok(None);
+    }
     if !is_sound(store, visit) {
         return Ok(None);
     }
-    let is_first = expanded.insert(alloc, &visit.cid, visit.block, residual)?;
-    if is_first { Ok(Some(bytes)) } else { Ok(None) }
+    Ok(Some(bytes))
 }
 
 /// Enters a block, if there is one: up to its first child, or to the link that it is.
