@@ -1,5 +1,6 @@
 -- Where the head of a link's tag isn't in the bytes of a block, no link is in it.
-use Rattle.std.proofs.Common.{◌≡◌, ℕ, ◌+◌, ◌<◌, ◌^◌, Bool, true, false, List, [], ◌∷◌, ◌++◌, refl, sym, ◌∙◌, ap, arith}
+use Rattle.std.proofs.Common.{◌≡◌, ℕ, zero, suc, ◌+◌, ◌<◌, ◌^◌, Bool, true, false, List, [], ◌∷◌, ◌++◌, length, get_or, drop, refl, sym, ◌∙◌, ap, arith}
+use Rattle.std.proofs.lemmas.Bool.Decides.{nat_tests}
 use Rattle.std.specs.Prelude.{◌&&◌, ◌||◌, ◌==◌, Some, nat_le, if◌then◌else◌}
 use Rattle.std.proofs.lemmas.Bool.{false≢true, or_from, or_parts, leb-false}
 use Rattle.std.proofs.lemmas.List.Elements.{All-cons, All-nil}
@@ -8,6 +9,7 @@ use Rattle.ix_cbor.specs.Data as nodes
 use Rattle.ix_cbor.specs.Data.{Data, Items, Entries, no_items, item, no_entries, entry}
 use Rattle.ix_cbor.specs.Reading.{data_at}
 use Rattle.ix_cbor.specs.Spelling.{head_of, item_count, entry_count, key_spelling, spelling_of, items_spelling, entries_spelling}
+use Rattle.ix_cbor.proofs.Bytes.{IsBytes, IsBytes-rest}
 use Rattle.ix_cbor.proofs.Laws.{data_at-iff}
 use Rattle.ix_selector.specs.Enters.{Step, key, nth, Path}
 use Rattle.ix_walk.specs.Arrivals.{Arrival, Crossing, behind, arrivals_below, arrivals_in_items, arrivals_in_entries}
@@ -44,6 +46,45 @@ tag_before (x ∷ y ∷ xs) ys none = let p = parts x (y ∷ (xs ++ ys)) none in
 are_bytes : (b : List ℕ) → has_tag b ≡ false → AreBytes b
 are_bytes [] none = All-nil (λ x. x < 2 ^ 8)
 are_bytes (x ∷ xs) none = let p = parts x xs none in All-cons (λ x. x < 2 ^ 8) x xs (leb-false 256 x p.0) (are_bytes xs p.2)
+
+-- ---- the first byte with which a tag's head begins
+
+-- what isn't true is false
+pub is_false : (b : Bool) → (b ≡ true → ⊥) → b ≡ false
+is_false true h = absurd (h refl)
+is_false false h = refl
+
+-- the test of a byte that is no such
+over : (byte here more : Bool) (after : Bool) → byte ≡ false → here ≡ false → (byte || ((here && after) || more)) ≡ more
+over false false more after p q = refl
+over false true more after p q = absurd cc
+over true here more after p q = absurd cc
+
+-- and of one that is
+at : (byte here more : Bool) (after : Bool) → byte ≡ false → here ≡ true → (byte || ((here && after) || more)) ≡ (after || more)
+at false true more after p q = refl
+at false false more after p q = absurd cc
+at true here more after p q = absurd cc
+
+-- a byte is below 256
+byte_is : (x : ℕ) → x < 256 → nat_le 256 x ≡ false
+byte_is x low = grind (arith, nat_tests)
+
+-- a tag is behind the first, if there is one
+pub first_found : (b : List ℕ) (place : ℕ) → IsBytes b → place < length b → ((k : ℕ) → k < place → (get_or b k 0 == 0xd8) ≡ false) → (get_or b place 0 == 0xd8) ≡ true
+    → has_tag b ≡ (begins_with 0x2a (drop (suc place) b) || has_tag (drop (suc place) b))
+first_found [] place bytes low before here = absurd (omega (arith, low))
+first_found (x ∷ xs) zero bytes low before here = at (nat_le 256 x) (x == 0xd8) (has_tag xs) (begins_with 0x2a xs) (byte_is x (bytes 0)) here
+first_found (x ∷ xs) (suc place) bytes low before here =
+    over (nat_le 256 x) (x == 0xd8) (has_tag xs) (begins_with 0x2a xs) (byte_is x (bytes 0)) (before 0 (omega arith))
+    ∙ first_found xs place (IsBytes-rest x xs bytes) (omega (arith, low)) (λ k h. before (suc k) (omega (arith, h))) here
+
+-- and there is none without it
+pub none_found : (b : List ℕ) → IsBytes b → ((k : ℕ) → k < length b → (get_or b k 0 == 0xd8) ≡ false) → has_tag b ≡ false
+none_found [] bytes none = refl
+none_found (x ∷ xs) bytes none =
+    over (nat_le 256 x) (x == 0xd8) (has_tag xs) (begins_with 0x2a xs) (byte_is x (bytes 0)) (none 0 (omega arith))
+    ∙ none_found xs (IsBytes-rest x xs bytes) (λ k h. none (suc k) (omega (arith, h)))
 
 -- ---- no arrival below
 

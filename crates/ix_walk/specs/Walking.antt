@@ -1,5 +1,5 @@
 -- What a walk is about to return, by what it keeps.
-use Rattle.std.specs.Prelude.{◌≡◌, ℕ, zero, suc, ◌+◌, ◌-◌, ◌≤◌, Bool, true, false, List, [], ◌∷◌, ◌++◌, length, map, reverse, take, Option, Some, None, option_map, option_and_then, Ok, not, nat_le, nat_lt, ◌==◌, ◌&&◌, ◌||◌, bytes_eq, if◌then◌else◌}
+use Rattle.std.specs.Prelude.{◌≡◌, ℕ, zero, suc, ◌+◌, ◌-◌, ◌<◌, ◌≤◌, Bool, true, false, List, [], ◌∷◌, ◌++◌, length, map, reverse, take, Option, Some, None, option_map, option_and_then, Ok, not, nat_le, nat_lt, ◌==◌, ◌&&◌, ◌||◌, bytes_eq, if◌then◌else◌}
 use Rattle.std.specs.Result.{result_ok}
 use Rattle.ix_cbor.specs.Data as nodes
 use Rattle.ix_cbor.specs.Data.{Data, Items, Entries, null, boolean, integer, float, bytes, text, list, link, no_items, item, no_entries, entry}
@@ -72,7 +72,12 @@ abbrev pub has_tag : List ℕ → Bool
 has_tag [] = false
 has_tag (x ∷ xs) = nat_le 256 x || ((x == 0xd8 && begins_with 0x2a xs) || has_tag xs)
 
--- the same of bytes that may be absent
+-- the bytes after the first 0xd8 in others, with which the head of a tag begins
+pub record IsBehindFirst (b behind : List ℕ) : Type 0 where
+  pub fewer : length behind < length b
+  pub same : has_tag b ≡ (begins_with 0x2a behind || has_tag behind)
+
+-- whether a link may be in the bytes, if there are any
 abbrev pub is_tagged : Option (List ℕ) → Bool
 is_tagged None = false
 is_tagged (Some b) = has_tag b

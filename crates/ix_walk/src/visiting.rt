@@ -1,13 +1,13 @@
 //! Visiting a link.
 
-ghost use Rattle.std.specs.Prelude.{◌≡◌, ◌&&◌, ◌+◌, ◌<◌, ◌^◌, IfOk, IfSome, OnOk, None, Some, option_map, is_none};
+ghost use Rattle.std.specs.Prelude.{◌≡◌, ◌&&◌, ◌+◌, ◌<◌, ◌^◌, false, IfOk, IfSome, IfNone, OnOk, None, Some, option_map, is_none};
 ghost use Rattle.ix_cbor.specs.Reading.{data_at};
 ghost use Rattle.ix_verdict.specs.Verdict.{has_codec};
 ghost use Rattle.ix_store.specs.Store.{bytes_of, value_of};
 ghost use Rattle.ix_walk.specs.Once.{is_sound};
 ghost use Rattle.ix_walk.specs.Descent.{IsItem};
 ghost use Rattle.ix_walk.specs.Arriving.{known_bytes, IsPositionOf, IsValue, IsReading, GoesInto, Roots, Arrives, FindsNext, TakesNext};
-ghost use Rattle.ix_walk.specs.Walking.{has_tag, IsStanding, IsWalk};
+ghost use Rattle.ix_walk.specs.Walking.{has_tag, IsBehindFirst, IsStanding, IsWalk};
 
 use crate::descent::{next_found, node_at};
 use crate::fault::WalkStop;
@@ -21,6 +21,7 @@ use ix_cid::{Cid, CidRef};
 use ix_selector::Residual;
 use ix_store::{Cursor, Store, has_fault};
 use ix_verdict::{Needed, bytes_needed};
+use memchr::memchr;
 use std::alloc::{AllocError, Global};
 
 // Returns the bytes that a CID of a known codec names, if they are there, and whether they are not
@@ -91,13 +92,23 @@ fn has_tag(block: &[u8]) -> bool
     ensures { result ≡ has_tag block.now }
 {
     let mut rest = block;
-    while let Some((first, behind)) = rest.split_first() {
-        if *first == 0xd8 && matches!(behind.first(), Some(0x2a)) {
+    while let Some(behind) = behind_first(rest) {
+        if matches!(behind.first(), Some(0x2a)) {
             return true;
         }
         rest = behind;
     }
     false
+}
+
+// Returns the bytes after the first 0xd8, with which that head begins.
+fn behind_first(bytes: &[u8]) -> Option<&[u8]>
+    ensures found { IfSome result (λ behind. IsBehindFirst bytes.now behind.now) }
+    ensures none { IfNone result (has_tag bytes.now ≡ false) }
+{
+    let place = memchr(0xd8, bytes)?;
+    let (_, behind) = bytes.split_at(place + 1);
+    Some(behind)
 }
 
 /// Returns the bytes that a walk expands at a visit, of those that its CID names. A walk that

@@ -1,6 +1,0 @@
-use Rattle.std.proofs.Common.{arith}
-use Rattle.std.proofs.lemmas.Grind.{common_steps}
-use Rattle.ix_walk.proofs.visiting.has_tag.Goals as goal
-
-pub loop-first-preserved : goal.loop-first-preserved
-loop-first-preserved c = grind (arith, common_steps)
