@@ -10,14 +10,37 @@
 //!     Err(fault) => println!(rt; "{fault}")?,
 //! }
 //! ```
+//!
+//! A `StreamReceiver` is given the bytes as they come, and checks each section once it is whole:
+//!
+//! ```rust
+//! let mut stream = StreamReceiver::new(alloc, &job, allowed, ExpectedHeader::OfJob, limits)?;
+//! for piece in pieces {
+//!     stream.append(piece)?;
+//!     out.write_all(stream.checked())?;
+//!     stream.release();
+//! }
+//! let counts = stream.finish()?;
+//! ```
 #![tactic(auto)]
 
 mod check;
 mod fault;
 pub mod law;
+mod stream;
+mod stream_asked;
+mod stream_bytes;
+mod stream_fault;
+mod stream_parts;
+mod stream_request;
+#[cfg(test)]
+mod stream_tests;
 #[cfg(test)]
 mod tests;
 
 pub use check::check_archive;
 pub use fault::{ArchiveFault, ArchiveReason};
 pub use ix_receive::{AllowMissing, Counts, ReceiveFault};
+pub use stream::StreamReceiver;
+pub use stream_asked::{ExpectedHeader, StreamLimits};
+pub use stream_fault::{StreamFault, StreamReason};

@@ -1,0 +1,168 @@
+//! The receiver of an archive as a stream.
+
+ghost use Rattle.std.specs.Prelude.{◌≡◌, false, length, drop, IfOk, IfErr, OnOk};
+ghost use Rattle.ix_own_archive.specs.Streaming.{nothing_taken, TakesOn, StopsAt, IsStoppedAt, IsWholeStream, taken_of, IsCutAt};
+
+use crate::stream_asked::{ExpectedHeader, StreamLimits};
+use crate::stream_bytes::StreamBytes;
+use crate::stream_fault::{StreamFault, StreamReason};
+use crate::stream_parts::{end_stream, take_piece};
+use crate::stream_request::StreamRequest;
+use ix_car::header_of;
+use ix_receive::{AllowMissing, Counts, Receiver};
+use ix_walk::Job;
+use std::alloc::{AllocError, Global};
+use std::marker::Model;
+
+/// A receiver of the bytes of an archive, in pieces of any size: it checks that they are the own
+/// archive of a job, as `check_archive` does, and at each section as soon as it is whole.
+///
+/// It keeps the bytes that are not checked, those that were not released, and what a `Receiver` keeps.
+pub struct StreamReceiver<'s> {
+    request: StreamRequest<'s>,
+    receiver: Receiver<'s>,
+    bytes: StreamBytes,
+    ended: bool,
+}
+
+// Written by hand: a derived drop is inlined in each function that drops one, at each of its exits.
+impl<'s> Drop for StreamReceiver<'s> {
+    fn drop(self) {
+        let StreamReceiver {
+            request,
+            receiver,
+            bytes,
+            ended: _,
+        } = self;
+        drop(request);
+        drop(receiver);
+        drop(bytes);
+    }
+}
+
+impl<'s> Model for StreamReceiver<'s> {
+    ghost use Rattle.ix_own_archive.specs.Streaming.{Stream, coded_stream};
+
+    ghost Value = { Stream };
+
+    ghost coded = { coded_stream };
+
+    ghost use Rattle.ix_own_archive.specs.Requests.{asked_of};
+    ghost use Rattle.ix_own_archive.specs.Taking.{stream_of, IsHeld};
+
+    ghost view = { λ s. stream_of (asked_of s.request) s.bytes s.ended };
+
+    ghost invariant = { λ s. IsHeld (asked_of s.request) s.bytes s.receiver s.ended };
+}
+
+impl<'s> StreamReceiver<'s> {
+    /// Creates a receiver of an archive of a job, which has taken nothing. Blocks may be missing as
+    /// `allowed` says.
+    pub fn new(
+        alloc: Global,
+        job: &'s Job,
+        allowed: AllowMissing,
+        header: ExpectedHeader,
+        limits: StreamLimits,
+    ) -> Result<StreamReceiver<'s>, AllocError>
+        ensures { IfOk result (λ s. s ≡ nothing_taken
+            (record { job = job.now; allowed = allowed; header = header; limits = limits })) }
+    {
+        let jobs_header = header_of(alloc, job.roots())?;
+        Ok(StreamReceiver {
+            request: StreamRequest {
+                alloc,
+                job,
+                allowed,
+                header,
+                limits,
+                jobs_header,
+            },
+            receiver: Receiver::new(alloc, job, allowed),
+            bytes: StreamBytes::new(alloc),
+            ended: false,
+        })
+    }
+
+    /// Takes the next bytes, and checks the header and each section that they complete. After an error
+    /// nothing more is taken.
+    ///
+    /// A fault is found as soon as what has come shows it, whatever follows: a length that is above its
+    /// limit or isn't a varint at the length, anything else at the end of the header or section. Memory
+    /// also runs out at 2^63 bytes.
+    pub fn append(&mut self, piece: &[u8]) -> Result<(), StreamFault>
+        ensures taken { OnOk result (TakesOn self.old piece.now self.new) }
+        ensures stops { IfErr result (λ e. StopsAt self.old self.new e.place) }
+        ensures fault { IfErr result (λ e. IsStoppedAt self.old piece.now e.place e.reason) }
+    {
+        if self.ended {
+            return Err(StreamFault {
+                place: self.bytes.place(),
+                reason: StreamReason::Ended,
+            });
+        }
+        self.ended = true;
+        match take_piece(&self.request, &mut self.receiver, &mut self.bytes, piece) {
+            Ok(()) => {
+                self.ended = false;
+                Ok(())
+            }
+            Err(reason) => Err(StreamFault {
+                place: self.bytes.place(),
+                reason,
+            }),
+        }
+    }
+
+    /// The bytes that are checked and were not released: the header and whole sections. After an error
+    /// they are those before its place.
+    pub fn checked(&self) -> &[u8]
+        ensures { result.now ≡ drop self.now.released self.now.checked }
+    {
+        self.bytes.checked()
+    }
+
+    /// Releases the bytes that are checked.
+    pub fn release(&mut self)
+        ensures { self.new ≡ record self.old { released = length self.old.checked } }
+    {
+        self.bytes.release();
+    }
+
+    /// How many sections are checked.
+    pub fn sections(&self) -> u64
+        ensures { result ≡ self.now.sections }
+    {
+        self.bytes.parts().saturating_sub(1)
+    }
+
+    /// Ends the stream, of which nothing more is checked then. If it succeeds, its bytes are the own
+    /// archive of the job, and no block is missing that may not be. It fails if the stream ends within its
+    /// header or a section, or if the receiver refuses the end.
+    pub fn finish(self) -> Result<Counts, StreamFault>
+        ensures going { OnOk result (self.entry.ended ≡ false) }
+        ensures whole { IfOk result (IsWholeStream self.entry.asked (taken_of self.entry)) }
+        ensures fault { IfErr result (λ e. IsCutAt self.entry e.place e.reason) }
+    {
+        let StreamReceiver {
+            request,
+            receiver,
+            bytes,
+            ended,
+        } = self;
+        let place = bytes.place();
+        if ended {
+            return Err(StreamFault {
+                place,
+                reason: StreamReason::Ended,
+            });
+        }
+        match end_stream(&request, receiver, &bytes) {
+            Ok(counts) => Ok(counts),
+            Err(reason) => Err(StreamFault {
+                place,
+                reason: StreamReason::Archive(reason),
+            }),
+        }
+    }
+}
