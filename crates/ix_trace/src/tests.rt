@@ -1,0 +1,1 @@
+//! Paths through worked graphs.

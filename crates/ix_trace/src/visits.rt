@@ -1,0 +1,32 @@
+//! Tracing the visits of a job.
+
+use crate::tracer::Tracer;
+use ix_store::Store;
+use ix_walk::{Job, Walk};
+use std::alloc::{AllocError, Global};
+
+/// Returns the paths of the visits of a job that have these numbers, which rise. The walk of the job is
+/// repeated up to the last of them, and a block is read once more only if it is on one of these paths. A
+/// visit that the walk doesn't come to has none.
+pub fn trace(
+    alloc: Global,
+    store: &Store,
+    job: &Job,
+    numbers: &[u32],
+) -> Result<Vec<Option<String>>, AllocError> {
+    let mut paths = Vec::with_capacity(alloc, numbers.len())?;
+    let mut tracer = Tracer::new(alloc);
+    for item in Walk::new(alloc, store, job, 0)? {
+        let Some(next) = numbers.get(paths.len()) else {
+            return Ok(paths);
+        };
+        let Ok(visit) = item else {
+            return Ok(paths);
+        };
+        tracer.advance(visit.depth)?;
+        if visit.seq == *next {
+            paths.push(tracer.path(alloc, store, job, &visit.cid)?)?;
+        }
+    }
+    Ok(paths)
+}
