@@ -4,3 +4,5 @@ pub use Rattle.ix_path.specs.Children
 pub mod Leads
 pub mod Links
 pub mod Segments
+pub mod Text
+pub mod Trace

@@ -1,5 +1,5 @@
 -- The links in a block, by the steps to them.
-use Rattle.std.specs.Prelude.{◌≡◌, ℕ, ◌≤◌, ◌==◌, List, [], ◌∷◌, ◌++◌, length, reverse, if◌then◌else◌, None, Ok}
+use Rattle.std.specs.Prelude.{◌≡◌, ℕ, ◌≤◌, ◌==◌, List, [], ◌∷◌, ◌++◌, length, reverse, if◌then◌else◌, Option, None, Some, Ok}
 use Rattle.std.specs.List.{AllByRecursion}
 use Rattle.ix_cbor.specs.Data.{Data, Items, Entries, list, map, link}
 use Rattle.ix_cbor.specs.Reading.{item_at, items_at, entries_at}
@@ -27,6 +27,11 @@ pub record IsNodeOf (block : Data) (steps : List StepFrom) (n : ℕ) (d : Data) 
 -- each link is in the block where the steps to it lead
 abbrev pub AreLinksOf : Data → List StepFrom → List Link → Type 0
 AreLinksOf block steps links = AllByRecursion (λ l. IsNodeOf block steps l.node (link l.cid)) links
+
+-- the same of the data of a CID; without data there is none
+abbrev pub AreLinksInside : Option Data → List StepFrom → List Link → Type 0
+AreLinksInside None steps links = links ≡ []
+AreLinksInside (Some d) steps links = AreLinksOf d steps links
 
 -- nodes keep their numbers, and links that are of a block stay so
 pub record Grows (block : Data) (old new : Expansion) : Type 0 where

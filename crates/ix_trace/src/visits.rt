@@ -1,5 +1,8 @@
 //! Tracing the visits of a job.
 
+ghost use Rattle.std.specs.Prelude.{IfOk};
+ghost use Rattle.ix_trace.specs.Trace.{ArePaths};
+
 use crate::tracer::Tracer;
 use ix_store::Store;
 use ix_walk::{Job, Walk};
@@ -7,13 +10,15 @@ use std::alloc::{AllocError, Global};
 
 /// Returns the paths of the visits of a job that have these numbers, which rise. The walk of the job is
 /// repeated up to the last of them, and a block is read once more only if it is on one of these paths. A
-/// visit that the walk doesn't come to has none.
+/// path that is there leads from a root of the job to the CID of the visit.
 pub fn trace(
     alloc: Global,
     store: &Store,
     job: &Job,
     numbers: &[u32],
-) -> Result<Vec<Option<String>>, AllocError> {
+) -> Result<Vec<Option<String>>, AllocError>
+    ensures { IfOk result (λ paths. ArePaths store.now job.now numbers.now paths.items) }
+{
     let mut paths = Vec::with_capacity(alloc, numbers.len())?;
     let mut tracer = Tracer::new(alloc);
     for item in Walk::new(alloc, store, job, 0)? {
