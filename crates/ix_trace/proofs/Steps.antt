@@ -1,12 +1,12 @@
 -- The steps to a node, the last one first.
-use Rattle.std.proofs.Common.{◌≡◌, ℕ, zero, suc, ◌+◌, ◌-◌, ◌<◌, ◌≤◌, Bool, true, false, List, [], ◌∷◌, ◌++◌, length, take, drop, map, reverse, refl, sym, ◌∙◌, ap, subst, append_assoc, append-nil, length-append, arith}
+use Rattle.std.proofs.Common.{◌≡◌, ℕ, zero, suc, ◌-◌, ◌<◌, ◌≤◌, Bool, false, List, [], ◌∷◌, ◌++◌, length, take, drop, reverse, refl, sym, ◌∙◌, ap, append_assoc, length-append, arith}
 use Rattle.std.specs.Prelude.{Option, None, Some, IfSome, IfNone, ◌==◌, if◌then◌else◌}
 use Rattle.std.specs.Borrow.{Bor}
 use Rattle.std.specs.Option.{option_copied}
 use Rattle.std.specs.Slice.{IsItemAt}
 use Rattle.std.proofs.Math.Seq.{split_at}
 use Rattle.std.proofs.lemmas.Bool.Decides.{nat_tests}
-use Rattle.std.proofs.lemmas.List.{length-reverse, length-take, map-append}
+use Rattle.std.proofs.lemmas.List.{length-reverse, length-take}
 use Rattle.ix_selector.specs.Residual.{step_of}
 use Rattle.ix_trace.specs.declared.expansion.StepFrom.{StepFrom}
 use Rattle.ix_trace.specs.Links.{steps_back_to, steps_to}

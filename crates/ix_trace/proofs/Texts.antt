@@ -1,5 +1,5 @@
 -- The last segment of a path.
-use Rattle.std.proofs.Common.{◌≡◌, ℕ, zero, suc, ◌-◌, Bool, true, false, List, [], ◌∷◌, length, refl, sym, ◌∙◌, ap, arith}
+use Rattle.std.proofs.Common.{◌≡◌, ℕ, suc, ◌-◌, false, List, [], ◌∷◌, length, refl, ◌∙◌, ap, arith}
 use Rattle.std.specs.Prelude.{Some, slice_get, vec_len, ◌==◌}
 use Rattle.std.specs.Global.{Vec}
 use Rattle.std.proofs.lemmas.Bool.Decides.{nat_tests}
@@ -20,4 +20,7 @@ pub last_empty : (xs : List (Vec ℕ)) (v : Vec ℕ) → Some v ≡ slice_get xs
 last_empty [] v e = absurd cc
 last_empty (x ∷ []) v e =
     let same : v ≡ x = same_Some v x e in ap (λ n. n == 0) v.ok.0 ∙ ap (λ (w : Vec ℕ). length w.items == 0) same ∙ one_segment x.items
-last_empty (x ∷ y ∷ more) v e = last_empty (y ∷ more) v e
+last_empty (x ∷ y ∷ more) v e =
+    let far : suc (suc (length more)) - 1 ≡ suc (length more) = omega arith in
+    let near : length more ≡ suc (length more) - 1 = omega arith in
+    last_empty (y ∷ more) v (e ∙ ap (slice_get (x ∷ y ∷ more)) far ∙ ap (slice_get (y ∷ more)) near)

@@ -1,11 +1,14 @@
 -- What a tracer keeps, and where it leads.
-use Rattle.std.proofs.Common.{◌≡◌, ℕ, zero, suc, ◌+◌, ◌<◌, ◌≤◌, List, [], ◌∷◌, ◌++◌, length, take, drop, map, refl, sym, ◌∙◌, ap, subst, append_assoc, append-nil, arith}
-use Rattle.std.specs.Prelude.{Option, None, Some, IfSome, Ok, slice_get, String}
+use Rattle.std.proofs.Common.{◌≡◌, ℕ, zero, suc, ◌+◌, List, [], ◌∷◌, ◌++◌, length, take, refl, sym, ◌∙◌, ap, subst, append_assoc, append-nil, arith}
+use Rattle.std.specs.Prelude.{Option, None, Some, IfSome, Ok, slice_get, String, string_bytes}
 use Rattle.std.specs.Global.{Global, Vec}
 use Rattle.std.specs.List.{AllByRecursion}
 use Rattle.std.proofs.lemmas.List.{map-append}
-use Rattle.std.proofs.lemmas.Option.{same_Some}
-use Rattle.ix_cbor.specs.Data.{Data, link}
+use Rattle.std.proofs.lemmas.Option.{same_Some, slice_get_read}
+use Rattle.std.specs.Borrow.{Bor}
+use Rattle.std.specs.Option.{option_to_list}
+use Rattle.std.specs.Slice.{IsItemAt}
+use Rattle.ix_cbor.specs.Data.{Data}
 use Rattle.ix_cbor.specs.Reading.{decoded}
 use Rattle.ix_store.specs.Store.{Blocks, value_of}
 use Rattle.ix_path.specs.Path.{segments_view}
@@ -13,16 +16,16 @@ use Rattle.ix_walk.specs.Arriving.{IsValue}
 use Rattle.ix_walk.specs.Arrivals.{Arrival}
 use Rattle.ix_walk.specs.declared.visit.Visit.{Visit}
 use Rattle.ix_walk.specs.JobMeaning.{JobMeaning}
-use Rattle.ix_walk.specs.Visits.{visits_from}
+use Rattle.ix_walk.specs.Visits.{visits_from, visits_of}
 use Rattle.ix_trace.specs.declared.expansion.Link.{Link}
 use Rattle.ix_trace.specs.declared.expansion.StepFrom.{StepFrom}
 use Rattle.ix_trace.specs.declared.tracer.Inside.{Inside}
 use Rattle.ix_trace.specs.declared.tracer.Level.{Level}
 use Rattle.ix_trace.specs.declared.tracer.Place.{Place}
-use Rattle.ix_trace.specs.Leads.{Leads, here, onward}
+use Rattle.ix_trace.specs.Leads.{here, onward}
 use Rattle.ix_trace.specs.Links.{steps_to, AreLinksOf, AreLinksInside}
 use Rattle.ix_trace.specs.Segments.{segment_of, segments_of}
-use Rattle.ix_trace.specs.Trace.{LeadsOn, IsInside, IsKept, AreKept, GoesOn, GoesDown, IsPathOfVisit, ArePaths}
+use Rattle.ix_trace.specs.Trace.{LeadsOn, IsInside, IsKept, AreKept, GoesOn, GoesDown, IsPathTo, IsPathOfVisit, ArePaths}
 
 -- ---- levels
 
@@ -42,6 +45,12 @@ pub kept_take : (store : Blocks) (n : ℕ) (xs : List Level) → AreKept store x
 kept_take store zero xs are = tt
 kept_take store (suc n) [] are = tt
 kept_take store (suc n) (x ∷ xs) are = (are.0, kept_take store n xs are.1)
+
+-- what is left after some were cut off, and the last was taken
+pub kept_turn : (store : Blocks) (old cut popped : List Level) (depth : ℕ) (r : Option Level) → AreKept store old → cut ≡ take depth old → cut ≡ popped ++ option_to_list r → AreKept store popped × IfSome r (IsKept store)
+kept_turn store old cut popped depth None are is parts = (subst (AreKept store) (sym is ∙ parts ∙ append-nil popped) (kept_take store depth old are), tt)
+kept_turn store old cut popped depth (Some x) are is parts =
+    let both = subst (AreKept store) (sym is ∙ parts) (kept_take store depth old are) in (kept_front store popped x both, kept_last store popped x both)
 
 -- ---- a block
 
@@ -88,6 +97,19 @@ seq_at store number seq k [] v e = absurd (no_visit k v e) where
   no_visit (suc k) v e = cc
 seq_at store number seq zero (a ∷ xs) v e = let z : seq ≡ seq + 0 = omega arith in ap (λ w. w.seq) (sym (same_Some _ v e)) ∙ z
 seq_at store number seq (suc k) (a ∷ xs) v e = let up : seq + 1 + k ≡ seq + suc k = omega arith in seq_at store number (seq + 1) k xs v e ∙ up
+
+-- so the visit that is next has the number of those before it
+pub visit_path : (store : Blocks) (job : JobMeaning) (xs : List Arrival) (k n : ℕ) (v : Visit) (o : Option (String Global)) → visits_of store 0 job ≡ visits_from store 0 0 xs → slice_get (visits_of store 0 job) k ≡ Some v → v.seq ≡ n
+    → IfSome o (λ text. IsPathTo store job v.cid (string_bytes text)) → IfSome o (IsPathOfVisit store job n)
+visit_path store job xs k n v None all e is leads = tt
+visit_path store job xs k n v (Some text) all e is leads =
+    let number = seq_at store 0 0 k xs v (ap (λ vs. slice_get vs k) (sym all) ∙ e) in
+    let here : k ≡ n = omega (arith, number, is) in (v, subst (λ m. slice_get (visits_of store 0 job) m ≡ Some v) here e, leads)
+
+-- an element that was looked up
+pub got_at : (xs : List ℕ) (k : ℕ) (r : Option (Bor ℕ)) (b : Bor ℕ) → IsItemAt xs k r → r ≡ Some b → slice_get xs k ≡ Some b.now
+got_at xs k None b item is = absurd cc
+got_at xs k (Some c) b item is = slice_get_read xs (length xs) k c.now refl item.3.0 item.1 ∙ ap (λ (d : Bor ℕ). Some d.now) (same_Some c b is)
 
 -- one more path
 pub paths_more : (store : Blocks) (job : JobMeaning) (numbers : List ℕ) (paths : List (Option (String Global))) (n : ℕ) (o : Option (String Global)) → ArePaths store job numbers paths → slice_get numbers (length paths) ≡ Some n → IfSome o (IsPathOfVisit store job n)

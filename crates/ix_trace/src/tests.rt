@@ -47,7 +47,10 @@ fn job_of(alloc: Global) -> Result<Job, Fail> {
 // The paths of some visits, without the text of their root, one after another.
 fn paths(alloc: Global, job: &Job, numbers: &[u32]) -> Result<String, Fail> {
     let mut store = Store::new(alloc);
-    store.add_copy(cid_of(alloc, NODE)?, hex::decode(alloc, NODE_BLOCK)?.as_slice())?;
+    store.add_copy(
+        cid_of(alloc, NODE)?,
+        hex::decode(alloc, NODE_BLOCK)?.as_slice(),
+    )?;
     let root = cid_of(alloc, ROOT)?.text(alloc)?;
     let mut text = String::new(alloc);
     for path in trace(alloc, &store, job, numbers)? {
@@ -67,7 +70,10 @@ fn visits_at_every_link_and_once(rt: HostRuntime) -> Result<(), Fail> {
     let alloc = rt.alloc();
     let job = job_of(alloc)?;
     let every = paths(alloc, &job, &[0, 1, 2, 4, 5, 6, 8, 11])?;
-    assert_eq!(rt; every.as_str(), "[][/a][/a/0][/b/0][/c/1/0][][/a/0][/c/1/0]");
+    assert_eq!(rt;
+        every.as_str(),
+        "[][/a][/a/0][/b/0][/c/1/0][][/a/0][/c/1/0]"
+    );
     let job = job.links_once();
     let once = paths(alloc, &job, &[2, 3, 4, 5, 9])?;
     assert_eq!(rt; once.as_str(), "[/a/0][/b][/c/1/0][]");

@@ -12,11 +12,7 @@ use std::alloc::{AllocError, Global};
 /// Returns the text of a path: the text of the root's CID, and each segment after a `/`. In a segment the
 /// printable characters of ASCII but blanks, `%`, `/` and `,` are themselves, and every other byte is `%` and
 /// two hex digits (RFC 3986, section 2.1). If the last segment is empty, a `/` ends it.
-pub fn path_text(
-    alloc: Global,
-    root: &Cid,
-    segments: &[Vec<u8>],
-) -> Result<String, AllocError>
+pub fn path_text(alloc: Global, root: &Cid, segments: &[Vec<u8>]) -> Result<String, AllocError>
     ensures { IfOk result (λ text. string_bytes text ≡ path_text root.now (segments_in segments.now)) }
 {
     let mut text = root.text(alloc)?;

@@ -1,12 +1,7 @@
-use Rattle.std.proofs.Common.{◌≡◌, ℕ, List, ◌+◌, refl, sym, ◌∙◌, ap, subst, arith}
-use Rattle.std.specs.Prelude.{IfOk}
+use Rattle.std.proofs.Common.{refl, ◌∙◌, ap, arith}
 use Rattle.std.proofs.lemmas.Result.{IfOk-weaker}
-use Rattle.ix_cbor.specs.declared.front.Front.{Front}
-use Rattle.ix_cbor.specs.Data.{Data}
 use Rattle.ix_cbor.specs.Fronts.{own_of_front}
 use Rattle.ix_selector.specs.declared.step.Step.TheVariants.{Key, Pos}
-use Rattle.ix_trace.specs.declared.expansion.Expansion.{Expansion}
-use Rattle.ix_trace.specs.Links.{FindsBelow, FindsInElements, FindsInEntries}
 use Rattle.ix_trace.proofs.Found.{below_link, below_list, below_map, below_leaf, elements_of, entries_of, in_child, elements_begin, element_is, element_more, elements_end, entries_begin, entry_key, entry_value, entry_more, entries_end}
 use Rattle.ix_trace.proofs.expansion.+push_item.Goals as goal
 

@@ -1,4 +1,4 @@
-use Rattle.std.proofs.Common.{◌≡◌, ◌+◌, ◌-◌, ◌*◌}
+use Rattle.std.proofs.Common.{◌+◌, ◌*◌}
 use Rattle.ix_trace.proofs.Found.{ElementsPassed, EntriesPassed}
 use Rattle.ix_trace.proofs.expansion.+push_item.Given as goal
 

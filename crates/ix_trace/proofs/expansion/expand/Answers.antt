@@ -1,4 +1,3 @@
-use Rattle.std.proofs.Common.{refl}
 use Rattle.ix_trace.proofs.Found.{all_found}
 use Rattle.ix_trace.proofs.expansion.expand.Goals as goal
 
