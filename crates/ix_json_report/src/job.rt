@@ -26,7 +26,8 @@ pub fn push_job(
     notes: SkipNotes<'_>,
     place: ArchivePlace<'_>,
 ) -> Result<Vec<u8>, AllocError>
-    ensures { IfOk result (λ r. AppendsLine text.items r.items (job_object job.now outcome.now notes.entry place.entry)) }
+    ensures { IfOk result (λ r.
+        AppendsLine text.items r.items (job_object job.now outcome.now notes.entry place.entry)) }
 {
     let mut out = Writer::new(text);
     push_object(alloc, &mut out, job, outcome, notes, place)?;

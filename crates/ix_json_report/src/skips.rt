@@ -10,12 +10,12 @@ use ix_archive::Skip;
 use json::Writer;
 use std::alloc::{AllocError, Global};
 
-/// What is told of the skips of a job besides.
+/// What a report has of the skips of a job besides.
 #[derive(Clone, Copy)]
 pub struct SkipNotes<'a> {
     /// How many skips were absent, if they were counted.
     pub absent: Option<usize>,
-    /// The paths of the skips that are told, in their order, as far as they are known.
+    /// The paths of the skips in the report, in their order, as far as they are known.
     pub paths: &'a [Option<String>],
 }
 

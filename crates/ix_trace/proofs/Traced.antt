@@ -54,14 +54,7 @@ kept_turn store old cut popped depth (Some x) are is parts =
 
 -- ---- a block
 
--- what was found in bytes
-pub found_inside : (b : List ℕ) (d : Data) (steps : List StepFrom) (links : List Link) → decoded b ≡ Ok d → ((e : Data) → decoded b ≡ Ok e → AreLinksOf e steps links) → (value : Option Data) → IsValue value (Some b) → AreLinksInside value steps links
-found_inside b d steps links e found value is = subst (λ v. AreLinksInside v steps links) (sym is.1) (found is.0 is.2)
-
-pub none_inside : (steps : List StepFrom) (links : List Link) → links ≡ [] → (value : Option Data) → IsValue value None → AreLinksInside value steps links
-none_inside steps links none value is = subst (λ v. AreLinksInside v steps links) (sym is) none
-
--- is what is in the block of a CID
+-- what was found in a block is what is in the block of its CID
 each_leads : (store : Blocks) (c : List ℕ) (d : Data) (steps : List StepFrom) (links : List Link) → value_of store c ≡ Some d → AreLinksOf d steps links → AllByRecursion (λ l. LeadsOn store c (steps_to steps l.node) l.cid) links
 each_leads store c d steps [] is are = tt
 each_leads store c d steps (l ∷ links) is are = (record { content = d; is_content = is; leads = are.0.leads }, each_leads store c d steps links is are.1)

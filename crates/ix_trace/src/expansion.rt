@@ -3,7 +3,6 @@
 ghost use Rattle.std.specs.Prelude.{◌≡◌, ℕ, List, [], None, Ok, IfOk};
 ghost use Rattle.ix_cbor.specs.Data.{Data, Items, Entries};
 ghost use Rattle.ix_cbor.specs.Reading.{decoded, item_at, items_at, entries_at};
-ghost use Rattle.ix_walk.specs.Descent.{IsItem};
 ghost use Rattle.ix_trace.specs.Links.{AreLinksOf, FindsBelow, FindsInElements, FindsInEntries, FindsInChild};
 
 use crate::item::{front_at, key_at, may_hold_links, skipped};
@@ -79,7 +78,7 @@ fn push_item<'a, 's>(
     node: usize,
     levels: u32,
 ) -> Result<&'a [u8], AllocError>
-    requires { IsItem at.now }
+    requires { (x : Data × List ℕ) × (item_at 512 at.now ≡ Ok x) }
     ensures { IfOk result (λ rest. FindsBelow at.now node found.old found.new rest.now) }
 {
     let (front, rest) = front_at(at);
@@ -161,11 +160,12 @@ fn push_child<'a, 's>(
     at: &'a [u8],
     levels: u32,
 ) -> Result<&'a [u8], AllocError>
-    requires { IsItem at.now }
+    requires { (x : Data × List ℕ) × (item_at 512 at.now ≡ Ok x) }
     ensures { IfOk result (λ rest. FindsInChild at.now from.entry found.old found.new rest.now) }
 {
+    let (front, _) = front_at(at);
     if levels > 0
-        && may_hold_links(at)
+        && may_hold_links(front)
         && let Some(residual) = residual.step(alloc, &from.step)?
     {
         found.steps.push(from)?;

@@ -41,10 +41,7 @@ pub(crate) fn key_at(at: &[u8]) -> (&[u8], &[u8])
     }
 }
 
-// Whether the item that begins here may contain a link.
-pub(crate) fn may_hold_links(at: &[u8]) -> bool
-    requires { IsItem at.now }
-{
-    let (front, _) = front_at(at);
+// Whether an item with this front may contain a link.
+pub(crate) fn may_hold_links(front: Front<'_>) -> bool {
     matches!(front, Front::Link(_) | Front::List(_) | Front::Map(_))
 }

@@ -110,7 +110,7 @@ impl<'a> Tracer<'a> {
             cid: root.by_ref(),
             residual: Residual::start(alloc, job.selector())?,
         };
-        let Some(place) = self.descend(alloc, store, start, &mut segments)? else {
+        let Some(place) = descend(alloc, store, &mut self.levels, start, &mut segments)? else {
             return Ok(None);
         };
         if place.cid.as_bytes() != cid.as_bytes() {
@@ -126,49 +126,49 @@ impl<'a> Tracer<'a> {
     {
         job.roots().get(self.roots.checked_sub(1)?)
     }
+}
 
-    // Goes down from the root to the last visit, and appends the segments on the way.
-    fn descend(
-        &mut self,
-        alloc: Global,
-        store: &'a Store,
-        start: Place<'a>,
-        segments: &mut Vec<Vec<u8>>,
-    ) -> Result<Option<Place<'a>>, AllocError>
-        requires { AreKept store.now self.old.levels.items }
-        ensures kept { AreKept store.now self.new.levels.items }
-        ensures leads { IfOk result (λ o. IfSome o (λ place.
-            GoesDown store.now start.entry.cid place.cid segments.old segments.new)) }
-    {
-        let above = self.levels.len().saturating_sub(1);
-        let mut place = start;
-        for level in 0..above {
-            match self.step_at(alloc, store, level, place, segments)? {
-                Some(next) => place = next,
-                None => return Ok(None),
-            }
+// Goes down from the root to the last visit, and appends the segments on the way.
+fn descend<'a>(
+    alloc: Global,
+    store: &'a Store,
+    levels: &mut Vec<Level<'a>>,
+    start: Place<'a>,
+    segments: &mut Vec<Vec<u8>>,
+) -> Result<Option<Place<'a>>, AllocError>
+    requires { AreKept store.now levels.old.items }
+    ensures kept { AreKept store.now levels.new.items }
+    ensures leads { IfOk result (λ o. IfSome o (λ place.
+        GoesDown store.now start.entry.cid place.cid segments.old segments.new)) }
+{
+    let above = levels.len().saturating_sub(1);
+    let mut place = start;
+    for level in 0..above {
+        match step_at(alloc, store, levels, level, place, segments)? {
+            Some(next) => place = next,
+            None => return Ok(None),
         }
-        Ok(Some(place))
     }
+    Ok(Some(place))
+}
 
-    // Goes on from the visit of this number on the way.
-    fn step_at(
-        &mut self,
-        alloc: Global,
-        store: &'a Store,
-        number: usize,
-        place: Place<'a>,
-        segments: &mut Vec<Vec<u8>>,
-    ) -> Result<Option<Place<'a>>, AllocError>
-        requires { AreKept store.now self.old.levels.items }
-        ensures kept { AreKept store.now self.new.levels.items }
-        ensures next { IfOk result (λ o. IfSome o (λ next.
-            GoesOn store.now place.entry.cid next.cid segments.old segments.new)) }
-    {
-        match self.levels.get_mut(number) {
-            Some(level) => step_down(alloc, store, level, place, segments),
-            None => Ok(None),
-        }
+// Goes on from the visit of this number on the way.
+fn step_at<'a>(
+    alloc: Global,
+    store: &'a Store,
+    levels: &mut Vec<Level<'a>>,
+    number: usize,
+    place: Place<'a>,
+    segments: &mut Vec<Vec<u8>>,
+) -> Result<Option<Place<'a>>, AllocError>
+    requires { AreKept store.now levels.old.items }
+    ensures kept { AreKept store.now levels.new.items }
+    ensures next { IfOk result (λ o. IfSome o (λ next.
+        GoesOn store.now place.entry.cid next.cid segments.old segments.new)) }
+{
+    match levels.get_mut(number) {
+        Some(level) => step_down(alloc, store, level, place, segments),
+        None => Ok(None),
     }
 }
 

@@ -3,7 +3,7 @@ use Rattle.std.specs.Prelude.{IfSome}
 use Rattle.ix_trace.specs.declared.tracer.Place.{Place}
 use Rattle.ix_trace.specs.Trace.{GoesOn}
 use Rattle.ix_trace.proofs.Traced.{goes_begin, goes_further}
-use Rattle.ix_trace.proofs.tracer.Tracer.descend.Goals as goal
+use Rattle.ix_trace.proofs.tracer.descend.Goals as goal
 
 pub loop-level-init : goal.loop-level-init
 loop-level-init c = (c.requires, goes_begin c.args.store.now c.args.start.cid c.args.segments.now)

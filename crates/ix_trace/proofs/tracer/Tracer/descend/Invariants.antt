@@ -1,5 +1,0 @@
-use Rattle.ix_trace.specs.Trace.{AreKept, GoesDown}
-use Rattle.ix_trace.proofs.tracer.Tracer.descend.Given as goal
-
-abbrev pub invariant-loop-level : goal.invariant-loop-level
-invariant-loop-level l = AreKept l.fn.store l.self.levels.items × GoesDown l.fn.store l.fn.start.cid l.place.cid l.fn.segments l.segments
