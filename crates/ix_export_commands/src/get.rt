@@ -83,7 +83,8 @@ It is on the disk before it is renamed, unless --no-sync is given. Without\n\
 terminal.\n\
 \n\
 The report is that of the command `jobs` for one job, `get`, and goes to\n\
-standard error. A note follows if nothing was found below the roots, or if a\n\
+standard error. With --paths each skip ends with its path from the root, as\n\
+`show` takes it. A note follows if nothing was found below the roots, or if a\n\
 recursion of the selector has no edge {\"@\":{}}. With --json the report is JSON:\n\
 docs/JSON.md has its keys.\n\
 \n\

@@ -65,7 +65,8 @@ many files are open at once as there are jobs. The report on standard output has
 a line for each job, how it ended (done, limit, memory, write, start) and its\n\
 counts, then a line for each link that was skipped (codec, hash, missing,\n\
 damaged, malformed), and at last the totals; with --json it is JSON, whose keys\n\
-docs/JSON.md has. Links of other codecs than raw and\n\
+docs/JSON.md has. With --paths the line of a skip ends with its path from the\n\
+root, as `show` takes it. Links of other codecs than raw and\n\
 DAG-CBOR and of other hashes than SHA-256, SHA-512 and identity are skipped;\n\
 UnixFS isn't read. The digest of an identity CID is the block itself: links\n\
 inside it are followed, and it has no block in the archive.\n\

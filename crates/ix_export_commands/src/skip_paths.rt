@@ -114,7 +114,10 @@ impl<'a> Ran<'a> {
         let mut each = Vec::with_capacity(alloc, self.jobs.len())?;
         for (job, outcome) in self.jobs.iter().zip(&self.report.results) {
             let numbers = numbers_of(alloc, outcome)?;
-            each.push(trace(alloc, self.store, job, numbers.as_slice())?)?;
+            let mut paths = trace(alloc, self.store, job, numbers.as_slice())?;
+            // Each visit was made before, so there is a path for each.
+            paths.resize_with(numbers.len(), || None)?;
+            each.push(paths)?;
         }
         Ok(SkipPaths { each })
     }

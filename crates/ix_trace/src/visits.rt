@@ -5,7 +5,7 @@ ghost use Rattle.ix_trace.specs.Trace.{ArePaths};
 
 use crate::tracer::Tracer;
 use ix_store::Store;
-use ix_walk::{Job, Walk};
+use ix_walk::{Job, Walk, WalkStop};
 use std::alloc::{AllocError, Global};
 
 /// Returns the paths of the visits of a job that have these numbers, which rise. The walk of the job is
@@ -25,8 +25,10 @@ pub fn trace(
         let Some(next) = numbers.get(paths.len()) else {
             return Ok(paths);
         };
-        let Ok(visit) = item else {
-            return Ok(paths);
+        let visit = match item {
+            Ok(visit) => visit,
+            Err(WalkStop::Limit) => return Ok(paths),
+            Err(WalkStop::Memory) => return Err(AllocError),
         };
         tracer.advance(visit.depth)?;
         if visit.seq == *next {
