@@ -81,6 +81,13 @@ judge_get() {
   [ "$status" != 3 ] || cmp -s out/a.car "$wanted" || fail 'the archive has no name'
 }
 
+# The same with --paths: where the job is done, its report has all paths, or none, and then a line says so.
+judge_paths() {
+  judge_get
+  if [ "$status" != 3 ] || cmp -s stderr paths.wanted; then return; fi
+  { echo 'note: out of memory for the paths of skips' && sed 's/^\(  .*\) .*/\1/' paths.wanted; } | cmp -s - stderr || fail 'another report'
+}
+
 # The same to standard output.
 judge_stream() {
   case $status in
@@ -176,6 +183,14 @@ done
 each_request judge_get "${words[@]}" --out out/a.car
 each_request judge_get "${words[@]}" --prefer-sound --out out/a.car
 each_request judge_stream "${words[@]}"
+root=bafyreigiavswv62tcfji62na4ecatawlzg33sy6uezl5lj3g56mxdhbnmq
+cat >paths.wanted <<END
+get done visits=10 kept=10 sections=6 bytes=784
+  5 damaged bafkreicvu5tadnk56ygcnwaxi64ebd6ceqz65dzz5jwguqrnc3hi2s2hxi $root/again/photos/2
+  8 missing bafkreielrjfgq3l3wk4coa2j2jab5dmpujxdegfaqyymlnoyq4csmivkxe $root/notes/past/0
+total jobs=1 done=1 skips=2
+END
+each_request judge_paths "${words[@]}" --paths --out out/a.car
 
 # The same without the album, which the receiver has, and without that and a listed block: the root's is in both.
 mkdir without

@@ -5,6 +5,7 @@ ghost use Rattle.std.specs.Arc.{arc_value};
 ghost use Rattle.ix_run.specs.Complete.{is_complete};
 
 use crate::json_jobs::{file_report, is_to_be_named};
+use crate::skip_paths::{PATHS, Ran};
 use clap::ArgMatches;
 use ix_cid::Cid;
 use ix_cli_io::{
@@ -82,7 +83,8 @@ It is on the disk before it is renamed, unless --no-sync is given. Without\n\
 terminal.\n\
 \n\
 The report is that of the command `jobs` for one job, `get`, and goes to\n\
-standard error. A note follows if nothing was found below the roots, or if a\n\
+standard error. With --paths each skip ends with its path from the root, as\n\
+`show` takes it. A note follows if nothing was found below the roots, or if a\n\
 recursion of the selector has no edge {\"@\":{}}. With --json the report is JSON:\n\
 docs/JSON.md has its keys.\n\
 \n\
@@ -202,6 +204,7 @@ pub static SPEC: CommandSpec = CommandSpec {
         PARTIAL,
         SYNC,
         NO_SYNC,
+        PATHS,
         JSON,
         PROGRESS,
         QUIET,
@@ -264,6 +267,7 @@ struct GetCommand<'a> {
     naming: Naming,
     is_synced: bool,
     is_quiet: bool,
+    has_paths: bool,
     is_json: bool,
     progress: ProgressMode,
 }
@@ -307,6 +311,7 @@ impl<'a> GetCommand<'a> {
             },
             is_synced: !NO_SYNC.is_given(words),
             is_quiet: QUIET.is_given(words),
+            has_paths: PATHS.is_given(words),
             is_json: JSON.is_given(words),
             progress: progress_mode(words, &QUIET, terminals.errors),
         })
@@ -469,7 +474,12 @@ impl<'a> GetCommand<'a> {
                         path: "-",
                         is_named: true,
                     };
-                    Ok(self.print_outcome(rt, archive, jobs.as_slice(), &ran, &errors))
+                    let ran = Ran {
+                        store: &blocks.store,
+                        jobs: jobs.as_slice(),
+                        report: &ran,
+                    };
+                    Ok(self.print_outcome(rt, archive, &ran, &errors))
                 }
                 Err(fault) => Err(refusal(rt, "-", fault, &errors)),
             };
@@ -478,7 +488,14 @@ impl<'a> GetCommand<'a> {
         let output = Output::create(rt, path, inputs.as_slice(), self.is_synced)?;
         let writer = output.writer(rt.alloc(), &errors);
         match self.write(rt, blocks, jobs, writer, progress) {
-            Ok(ran) => self.publish(rt, path, jobs.as_slice(), output, &ran, &errors),
+            Ok(ran) => {
+                let ran = Ran {
+                    store: &blocks.store,
+                    jobs: jobs.as_slice(),
+                    report: &ran,
+                };
+                self.publish(rt, path, output, &ran, &errors)
+            }
             Err(fault) => {
                 output.discard(rt);
                 Err(refusal(rt, path, fault, &errors))
@@ -513,28 +530,27 @@ impl<'a> GetCommand<'a> {
         &self,
         rt: &R,
         path: &str,
-        jobs: &[Job],
         output: Output,
-        ran: &RunReport,
+        ran: &Ran<'_>,
         errors: &WriteErrors,
     ) -> Result<u8, Failure> {
-        let published = match (jobs.first(), ran.results.first()) {
-            (Some(job), Some(told)) => output.publish(rt, job, told, self.naming),
+        let published = match ran.first() {
+            Some((job, told)) => output.publish(rt, job, told, self.naming),
             _ => Ok(None),
         };
         if let Ok(Some(left)) = &published {
             let _ = rt.eprint(left.as_str());
         }
-        let is_named = published.is_ok() && self.is_to_be_named(jobs, ran);
+        let is_named = published.is_ok() && self.is_to_be_named(ran);
         let archive = Archive { path, is_named };
-        let status = self.print_outcome(rt, archive, jobs, ran, errors);
+        let status = self.print_outcome(rt, archive, ran, errors);
         published.map(|_| status)
     }
 
     // Returns whether the archive is to get its name.
-    fn is_to_be_named(&self, jobs: &[Job], ran: &RunReport) -> bool {
-        match (jobs.first(), ran.results.first()) {
-            (Some(job), Some(told)) => is_to_be_named(self.naming, job, told),
+    fn is_to_be_named(&self, ran: &Ran<'_>) -> bool {
+        match ran.first() {
+            Some((job, told)) => is_to_be_named(self.naming, job, told),
             _ => false,
         }
     }
@@ -545,17 +561,16 @@ impl<'a> GetCommand<'a> {
         &self,
         rt: &R,
         archive: Archive<'_>,
-        jobs: &[Job],
-        ran: &RunReport,
+        ran: &Ran<'_>,
         errors: &WriteErrors,
     ) -> u8 {
-        let (Some(job), Some(told)) = (jobs.first(), ran.results.first()) else {
+        let Some((job, told)) = ran.first() else {
             return INCOMPLETE;
         };
-        let status = status_of(job, told, ran.status);
+        let status = status_of(job, told, ran.report.status);
         print_notes(rt, failed_write(rt.alloc(), archive.path, told, errors));
         if status != 0 || !self.is_quiet {
-            self.print_run(rt, archive, job, ran);
+            self.print_run(rt, archive, ran);
         }
         if !self.ends_at_its_roots() && met_roots_alone(job, told) {
             let _ = rt.eprintln(NOTHING_BELOW);
@@ -567,19 +582,20 @@ impl<'a> GetCommand<'a> {
     }
 
     // Prints the report of a run to standard error, as text or as JSON.
-    fn print_run<R: AllocGlobal + Eprint>(
-        &self,
-        rt: &R,
-        archive: Archive<'_>,
-        job: &Job,
-        ran: &RunReport,
-    ) {
+    fn print_run<R: AllocGlobal + Eprint>(&self, rt: &R, archive: Archive<'_>, ran: &Ran<'_>) {
         if !self.is_json {
-            print_report(rt, ran.report.as_slice());
+            match ran.text(rt, self.has_paths) {
+                Some(text) => print_report(rt, text.as_bytes()),
+                None => print_report(rt, ran.report.report.as_slice()),
+            }
             return;
         }
+        let alloc = rt.alloc();
         let Archive { path, is_named } = archive;
-        if let Ok(report) = file_report(rt.alloc(), path, is_named, job, ran) {
+        let report = ran.made(rt, self.has_paths, |paths| {
+            file_report(alloc, path, is_named, ran, paths)
+        });
+        if let Ok(report) = report {
             print_report(rt, report.as_slice());
         }
     }

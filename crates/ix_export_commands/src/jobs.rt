@@ -5,7 +5,8 @@ ghost use Rattle.std.specs.Arc.{arc_value};
 ghost use Rattle.ix_walk.specs.JobMeaning.{AreFew};
 ghost use Rattle.ix_run.specs.Run.{CanRun};
 
-use crate::json_jobs::folder_report;
+use crate::json_jobs::{ArchiveFolder, folder_report};
+use crate::skip_paths::{PATHS, Ran};
 use clap::ArgMatches;
 use clap::error::ErrorKind;
 use ix_cli_io::{
@@ -64,7 +65,8 @@ many files are open at once as there are jobs. The report on standard output has
 a line for each job, how it ended (done, limit, memory, write, start) and its\n\
 counts, then a line for each link that was skipped (codec, hash, missing,\n\
 damaged, malformed), and at last the totals; with --json it is JSON, whose keys\n\
-docs/JSON.md has. Links of other codecs than raw and\n\
+docs/JSON.md has. With --paths the line of a skip ends with its path from the\n\
+root, as `show` takes it. Links of other codecs than raw and\n\
 DAG-CBOR and of other hashes than SHA-256, SHA-512 and identity are skipped;\n\
 UnixFS isn't read. The digest of an identity CID is the block itself: links\n\
 inside it are followed, and it has no block in the archive.\n\
@@ -187,6 +189,7 @@ pub static SPEC: CommandSpec = CommandSpec {
         PARTIAL,
         SYNC,
         NO_SYNC,
+        PATHS,
         JSON,
         PROGRESS,
         QUIET,
@@ -228,6 +231,7 @@ struct JobsCommand<'a> {
     threads: ThreadCounts,
     is_synced: bool,
     naming: Naming,
+    has_paths: bool,
     is_json: bool,
     is_quiet: bool,
     progress: ProgressMode,
@@ -277,6 +281,7 @@ impl<'a> JobsCommand<'a> {
             is_synced: SYNC.is_given(words),
             naming,
             is_quiet: QUIET.is_given(words),
+            has_paths: PATHS.is_given(words),
             is_json: JSON.is_given(words),
             progress: progress_mode(words, &QUIET, is_terminal),
         })
@@ -335,7 +340,14 @@ impl<'a> JobsCommand<'a> {
             Err(error) => Err(RunFault::from(error)),
         };
         match ran {
-            Ok(ran) => self.publish(rt, jobs.as_slice(), outputs, &ran, &errors),
+            Ok(ran) => {
+                let ran = Ran {
+                    store: &blocks.store,
+                    jobs: jobs.as_slice(),
+                    report: &ran,
+                };
+                self.publish(rt, outputs, &ran, &errors)
+            }
             Err(fault) => {
                 discard_outputs(rt, outputs);
                 Err(Failure::from(fault))
@@ -362,39 +374,49 @@ impl<'a> JobsCommand<'a> {
     fn publish<R: AllocGlobal + Eprint + Files<File = File> + Print>(
         &self,
         rt: &R,
-        jobs: &[Job],
         outputs: Vec<Output>,
-        ran: &RunReport,
+        ran: &Ran<'_>,
         errors: &WriteErrors,
     ) -> Result<u8, Failure> {
-        let results = ran.results.as_slice();
+        let jobs = ran.jobs;
+        let results = ran.report.results.as_slice();
         let published = publish_outputs(rt, outputs, jobs, results, self.naming);
-        self.print_run(rt, jobs, ran, published.is_ok())?;
+        self.print_run(rt, ran, published.is_ok())?;
         let notes = published?;
         print_notes(rt, Ok(notes));
         print_notes(
             rt,
             failed_writes(rt.alloc(), self.folder, jobs, results, errors),
         );
-        Ok(ran.status)
+        Ok(ran.report.status)
     }
 
     // Prints the report of a run whose outputs were published, as text or as JSON, unless it is to be quiet
     // and the status is 0. If a rename failed, not all are named that should be.
-    fn print_run<R: AllocGlobal + Print>(
+    fn print_run<R: AllocGlobal + Eprint + Print>(
         &self,
         rt: &R,
-        jobs: &[Job],
-        ran: &RunReport,
+        ran: &Ran<'_>,
         are_named: bool,
     ) -> Result<(), Failure> {
-        if self.is_quiet && are_named && ran.status == 0 {
+        if self.is_quiet && are_named && ran.report.status == 0 {
             return Ok(());
         }
         if !self.is_json {
-            return print_all(rt, ran.report.as_slice());
+            return match ran.text(rt, self.has_paths) {
+                Some(text) => print_all(rt, text.as_bytes()),
+                None => print_all(rt, ran.report.report.as_slice()),
+            };
         }
-        let report = folder_report(rt.alloc(), self.folder, jobs, ran, self.naming, are_named)?;
+        let alloc = rt.alloc();
+        let folder = ArchiveFolder {
+            path: self.folder,
+            naming: self.naming,
+            are_named,
+        };
+        let report = ran.made(rt, self.has_paths, |paths| {
+            folder_report(alloc, &folder, ran, paths)
+        })?;
         print_all(rt, report.as_slice())
     }
 }

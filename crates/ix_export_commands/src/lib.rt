@@ -9,3 +9,4 @@ pub mod get;
 pub mod jobs;
 mod json_jobs;
 pub mod root;
+mod skip_paths;

@@ -1,6 +1,7 @@
 -- The tokens that are written are those of the objects, which read back as these.
-use Rattle.std.proofs.Common.{◌≡◌, ℕ, ◌≤◌, List, [], ◌∷◌, ◌++◌, Option, Some, None, option_and_then, refl, sym, ap, subst, ◌∙◌, arith, append-nil, append_assoc}
-use Rattle.std.specs.Prelude.{codes}
+use Rattle.std.proofs.Common.{◌≡◌, ℕ, suc, ◌+◌, ◌≤◌, List, [], ◌∷◌, ◌++◌, length, Option, Some, None, option_and_then, refl, sym, ap, subst, ◌∙◌, arith, append-nil, append_assoc}
+use Rattle.std.specs.Prelude.{codes, String}
+use Rattle.std.specs.Global.{Global}
 use Rattle.json.specs.Token.{Token, begin_object, end_object, begin_array, end_array}
 use Rattle.json.specs.Lex.{tokens}
 use Rattle.json.specs.Json.{Json, Members, value, if_last, max_depth, document}
@@ -11,24 +12,44 @@ use Rattle.ix_walk.specs.JobMeaning.{JobMeaning}
 use Rattle.ix_archive.specs.declared.archive.Skip.{Skip}
 use Rattle.ix_jobs.specs.declared.results.JobResult.{JobResult}
 use Rattle.ix_json_report.specs.Members.{AppendsLine, IsLine}
-use Rattle.ix_json_report.specs.Objects.{skip_items, skips_member, known_before, absent_before, place_before, job_object, total_object}
+use Rattle.ix_json_report.specs.Objects.{path_at, skip_object, skip_items, skips_member, known_before, absent_before, place_before, job_object, total_object}
 use Rattle.ix_json_report.specs.Tokens.{end_tokens, counts_tokens, skip_tokens, all_skips_tokens, skips_tokens, known_tokens, absent_tokens, place_tokens, job_tokens, total_tokens}
+use Rattle.ix_json_report.specs.declared.skips.SkipNotes.{SkipNotes}
 use Rattle.ix_json_report.specs.declared.place.ArchivePlace.{ArchivePlace}
 use Rattle.ix_json_report.specs.declared.place.ArchivePlace.TheVariants.{File, Part, Unknown}
 
+-- the tokens of a skip are those of its object, and it nests no other
+skip-tokens : (s : Skip) (path : Option (List ℕ)) → json_tokens (skip_object s path) ≡ skip_tokens s path
+skip-tokens s None = refl
+skip-tokens s (Some path) = refl
+
+depth-skip : (s : Skip) (path : Option (List ℕ)) → depth (skip_object s path) ≤ 1
+depth-skip s None = omega arith
+depth-skip s (Some path) = omega arith
+
 -- the tokens of skips are those of the items
-items-skips : (skips : List Skip) → items_tokens (skip_items skips) ≡ all_skips_tokens skips ++ end_array ∷ []
-items-skips [] = refl
-items-skips (s ∷ skips) = ap (λ l. skip_tokens s ++ l) (items-skips skips) ∙ sym (append_assoc (skip_tokens s) (all_skips_tokens skips) (end_array ∷ []))
+items-skips : (paths : List (Option (String Global))) (n : ℕ) (skips : List Skip) → items_tokens (skip_items paths n skips) ≡ all_skips_tokens paths n skips ++ end_array ∷ []
+items-skips paths n [] = refl
+items-skips paths n (s ∷ skips) =
+    ap (λ l. l ++ items_tokens (skip_items paths (n + 1) skips)) (skip-tokens s (path_at paths n))
+    ∙ ap (λ l. skip_tokens s (path_at paths n) ++ l) (items-skips paths (n + 1) skips) ∙ sym (append_assoc (skip_tokens s (path_at paths n)) (all_skips_tokens paths (n + 1) skips) (end_array ∷ []))
 
 -- a list of skips nests objects alone
-depth-skips : (skips : List Skip) → items_depth (skip_items skips) ≤ 1
-depth-skips [] = omega arith
-depth-skips (s ∷ skips) = omega (arith, depth-skips skips)
+depth-skips : (paths : List (Option (String Global))) (n : ℕ) (skips : List Skip) → items_depth (skip_items paths n skips) ≤ 1
+depth-skips paths n [] = omega arith
+depth-skips paths n (s ∷ skips) = omega (arith, depth-skip s (path_at paths n), depth-skips paths (n + 1) skips)
 
 -- the last member, and the end of the object
-skips-last : (skips : List Skip) → members_tokens (skips_member skips) ≡ skips_tokens skips ++ end_object ∷ []
-skips-last skips = ap (λ l. Token.key (codes "skips") ∷ begin_array ∷ (l ++ end_object ∷ [])) (items-skips skips)
+skips-last : (paths : List (Option (String Global))) (skips : List Skip) → members_tokens (skips_member paths skips) ≡ skips_tokens paths skips ++ end_object ∷ []
+skips-last paths skips = ap (λ l. Token.key (codes "skips") ∷ begin_array ∷ (l ++ end_object ∷ [])) (items-skips paths 0 skips)
+
+-- those of one more skip
+pub skips-more : (paths : List (Option (String Global))) (n : ℕ) (skips : List Skip) (s : Skip) → all_skips_tokens paths n (skips ++ s ∷ []) ≡ all_skips_tokens paths n skips ++ skip_tokens s (path_at paths (n + length skips))
+skips-more paths n [] s = let z : n ≡ n + 0 = omega arith in append-nil (skip_tokens s (path_at paths n)) ∙ ap (λ m. skip_tokens s (path_at paths m)) z
+skips-more paths n (t ∷ skips) s =
+    let up : n + 1 + length skips ≡ n + suc (length skips) = omega arith in
+    ap (λ l. skip_tokens t (path_at paths n) ++ l) (skips-more paths (n + 1) skips s ∙ ap (λ m. all_skips_tokens paths (n + 1) skips ++ skip_tokens s (path_at paths m)) up)
+    ∙ sym (append_assoc (skip_tokens t (path_at paths n)) (all_skips_tokens paths (n + 1) skips) (skip_tokens s (path_at paths (n + suc (length skips)))))
 
 known-first : (known : Option ℕ) (more : Members) → members_tokens (known_before known more) ≡ known_tokens known ++ members_tokens more
 known-first None more = refl
@@ -57,23 +78,24 @@ place-depth (Part path) more = omega arith
 place-depth Unknown more = refl
 
 -- the tokens of a job are those of its object
-job-tokens : (job : JobMeaning) (r : JobResult) (absent : Option ℕ) (place : ArchivePlace) → json_tokens (job_object job r absent place) ≡ job_tokens job r absent place
-job-tokens job r absent place =
-    let last = skips_member r.skips.items in
+job-tokens : (job : JobMeaning) (r : JobResult) (notes : SkipNotes) (place : ArchivePlace) → json_tokens (job_object job r notes place) ≡ job_tokens job r notes place
+job-tokens job r notes place =
+    let last = skips_member notes.paths.now r.skips.items in
     let known = known_tokens r.counts.known in
+    let absent = notes.absent in
     let gone = absent_tokens absent in
     let at = place_tokens place in
-    let skips = skips_tokens r.skips.items in
+    let skips = skips_tokens notes.paths.now r.skips.items in
     ap (λ l. begin_object ∷ (end_tokens job r.end ++ counts_tokens r.counts ++ l))
     (known-first r.counts.known (absent_before absent (place_before place last))
-    ∙ ap (λ l. known ++ l) (absent-first absent (place_before place last) ∙ ap (λ l. gone ++ l) (place-first place last ∙ ap (λ l. at ++ l) (skips-last r.skips.items)))
+    ∙ ap (λ l. known ++ l) (absent-first absent (place_before place last) ∙ ap (λ l. gone ++ l) (place-first place last ∙ ap (λ l. at ++ l) (skips-last notes.paths.now r.skips.items)))
     ∙ sym (append_assoc known gone (at ++ (skips ++ end_object ∷ [])))
     ∙ sym (append_assoc (known ++ gone) at (skips ++ end_object ∷ [])) ∙ sym (append_assoc (known ++ gone ++ at) skips (end_object ∷ [])))
 
-job-depth : (job : JobMeaning) (r : JobResult) (absent : Option ℕ) (place : ArchivePlace) → depth (job_object job r absent place) ≤ max_depth
-job-depth job r absent place =
-    let last = skips_member r.skips.items in
-    omega (arith, known-depth r.counts.known (absent_before absent (place_before place last)), absent-depth absent (place_before place last), place-depth place last, depth-skips r.skips.items)
+job-depth : (job : JobMeaning) (r : JobResult) (notes : SkipNotes) (place : ArchivePlace) → depth (job_object job r notes place) ≤ max_depth
+job-depth job r notes place =
+    let last = skips_member notes.paths.now r.skips.items in
+    omega (arith, known-depth r.counts.known (absent_before notes.absent (place_before place last)), absent-depth notes.absent (place_before place last), place-depth place last, depth-skips notes.paths.now 0 r.skips.items)
 
 -- a value whose tokens a reader finds in their text is read from it
 read_back : (j : Json) → tokens (print (json_tokens j)) ≡ json_tokens j → depth j ≤ max_depth → document (print (json_tokens j)) ≡ Some j
@@ -87,8 +109,8 @@ line_of old new j ts same shallow line = record {
   reads_back = read_back j (subst (λ l. tokens (print l) ≡ l) (sym same) line.found) shallow;
 }
 
-pub job-line : (old new : List ℕ) (job : JobMeaning) (r : JobResult) (absent : Option ℕ) (place : ArchivePlace) → IsLine old new (job_tokens job r absent place) → AppendsLine old new (job_object job r absent place)
-job-line old new job r absent place line = line_of old new (job_object job r absent place) (job_tokens job r absent place) (job-tokens job r absent place) (job-depth job r absent place) line
+pub job-line : (old new : List ℕ) (job : JobMeaning) (r : JobResult) (notes : SkipNotes) (place : ArchivePlace) → IsLine old new (job_tokens job r notes place) → AppendsLine old new (job_object job r notes place)
+job-line old new job r notes place line = line_of old new (job_object job r notes place) (job_tokens job r notes place) (job-tokens job r notes place) (job-depth job r notes place) line
 
 pub total-line : (old new : List ℕ) (rs : List JobResult) → IsLine old new (total_tokens rs) → AppendsLine old new (total_object rs)
 total-line old new rs line = line_of old new (total_object rs) (total_tokens rs) refl (omega arith) line

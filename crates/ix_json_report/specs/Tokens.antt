@@ -1,5 +1,6 @@
 -- The tokens of the report's objects, part by part as they are written.
-use Rattle.std.specs.Prelude.{ℕ, Option, None, Some, List, [], ◌∷◌, ◌++◌, length, flat_map, codes}
+use Rattle.std.specs.Prelude.{ℕ, ◌+◌, Option, None, Some, List, [], ◌∷◌, ◌++◌, length, codes, String}
+use Rattle.std.specs.Global.{Global}
 use Rattle.json.specs.Token.{Token, begin_object, end_object, begin_array, end_array, key}
 use Rattle.ix_cid.specs.CidText.{text_of}
 use Rattle.ix_walk.specs.JobMeaning.{JobMeaning}
@@ -11,6 +12,8 @@ use Rattle.ix_archive.specs.declared.archive.Counts.{Counts}
 use Rattle.ix_jobs.specs.declared.results.JobResult.{JobResult}
 use Rattle.ix_jobs.specs.Report.{done_count, skip_count}
 use Rattle.ix_json_report.specs.Members.{text_member, number_member}
+use Rattle.ix_json_report.specs.Objects.{path_at}
+use Rattle.ix_json_report.specs.declared.skips.SkipNotes.{SkipNotes}
 use Rattle.ix_json_report.specs.declared.place.ArchivePlace.{ArchivePlace}
 use Rattle.ix_json_report.specs.declared.place.ArchivePlace.TheVariants.{File, Part, Unknown}
 
@@ -50,21 +53,28 @@ reason_tokens s = text_member (codes "verdict") (verdict_word s.verdict) ++ text
 abbrev pub skip_members : Skip → List Token
 skip_members s = number_member (codes "visit") s.seq ++ reason_tokens s
 
-abbrev pub skip_tokens : Skip → List Token
-skip_tokens s = begin_object ∷ (skip_members s ++ end_object ∷ [])
+-- the path of a visit, if it is known
+abbrev pub path_tokens : Option (List ℕ) → List Token
+path_tokens None = []
+path_tokens (Some path) = text_member (codes "path") path
 
-abbrev pub all_skips_tokens : List Skip → List Token
-all_skips_tokens skips = flat_map skip_tokens skips
+abbrev pub skip_tokens : Skip → Option (List ℕ) → List Token
+skip_tokens s path = begin_object ∷ (skip_members s ++ path_tokens path ++ end_object ∷ [])
+
+-- those of skips, the first of which has this number
+abbrev pub all_skips_tokens : List (Option (String Global)) → ℕ → List Skip → List Token
+all_skips_tokens paths n [] = []
+all_skips_tokens paths n (s ∷ skips) = skip_tokens s (path_at paths n) ++ all_skips_tokens paths (n + 1) skips
 
 -- the skips in order
-abbrev pub skips_tokens : List Skip → List Token
-skips_tokens skips = key (codes "skips") ∷ begin_array ∷ (all_skips_tokens skips ++ end_array ∷ [])
+abbrev pub skips_tokens : List (Option (String Global)) → List Skip → List Token
+skips_tokens paths skips = key (codes "skips") ∷ begin_array ∷ (all_skips_tokens paths 0 skips ++ end_array ∷ [])
 
 -- the object of a job
-abbrev pub job_tokens : JobMeaning → JobResult → Option ℕ → ArchivePlace → List Token
-job_tokens job r absent place =
+abbrev pub job_tokens : JobMeaning → JobResult → SkipNotes → ArchivePlace → List Token
+job_tokens job r notes place =
     begin_object
-    ∷ (end_tokens job r.end ++ counts_tokens r.counts ++ known_tokens r.counts.known ++ absent_tokens absent ++ place_tokens place ++ skips_tokens r.skips.items ++ end_object ∷ [])
+    ∷ (end_tokens job r.end ++ counts_tokens r.counts ++ known_tokens r.counts.known ++ absent_tokens notes.absent ++ place_tokens place ++ skips_tokens notes.paths.now r.skips.items ++ end_object ∷ [])
 
 -- how many jobs, how many of them are done, how many skips
 abbrev pub totals_tokens : List JobResult → List Token

@@ -8,7 +8,7 @@ ghost use Rattle.ix_json_report.specs.Tokens.{end_tokens, counts_tokens, written
 use crate::line::end_line;
 use crate::members::{push_number, push_text};
 use crate::place::{ArchivePlace, push_place};
-use crate::skips::push_skips;
+use crate::skips::{SkipNotes, push_skips};
 use ix_archive::{Counts, End};
 use ix_jobs::JobResult;
 use ix_walk::Job;
@@ -16,19 +16,21 @@ use json::Writer;
 use std::alloc::{AllocError, Global};
 
 /// Appends the line of a job: an object with its name, its end and its counts as in the text report,
-/// how many skips were absent, if they were counted, where its archive is, and its skips in their order.
+/// how many skips were absent, if they were counted, where its archive is, and its skips in their order,
+/// each with its path, if that is known.
 pub fn push_job(
     alloc: Global,
     text: Vec<u8>,
     job: &Job,
     outcome: &JobResult,
-    absent: Option<usize>,
+    notes: SkipNotes<'_>,
     place: ArchivePlace<'_>,
 ) -> Result<Vec<u8>, AllocError>
-    ensures { IfOk result (λ r. AppendsLine text.items r.items (job_object job.now outcome.now absent place.entry)) }
+    ensures { IfOk result (λ r.
+        AppendsLine text.items r.items (job_object job.now outcome.now notes.entry place.entry)) }
 {
     let mut out = Writer::new(text);
-    push_object(alloc, &mut out, job, outcome, absent, place)?;
+    push_object(alloc, &mut out, job, outcome, notes, place)?;
     end_line(out)
 }
 
@@ -38,18 +40,18 @@ fn push_object(
     out: &mut Writer,
     job: &Job,
     outcome: &JobResult,
-    absent: Option<usize>,
+    notes: SkipNotes<'_>,
     place: ArchivePlace<'_>,
 ) -> Result<(), AllocError>
-    ensures { Appends out.old out.new (job_tokens job.now outcome.now absent place.entry) result }
+    ensures { Appends out.old out.new (job_tokens job.now outcome.now notes.entry place.entry) result }
 {
     out.begin_object()?;
     push_end(alloc, out, job, outcome.end)?;
     push_counts(out, &outcome.counts)?;
     push_known(out, outcome.counts.known)?;
-    push_absent(out, absent)?;
+    push_absent(out, notes.absent)?;
     push_place(out, place)?;
-    push_skips(alloc, out, outcome.skips.as_slice())?;
+    push_skips(alloc, out, outcome.skips.as_slice(), notes.paths)?;
     out.end_object()
 }
 

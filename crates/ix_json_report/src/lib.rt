@@ -6,7 +6,8 @@
 //!
 //! ```rust
 //! let place = ArchivePlace::File("out/whole.car");
-//! let text = push_job(alloc, Vec::new(alloc), job, result, None, place)?;
+//! let notes = SkipNotes { absent: None, paths: &[] };
+//! let text = push_job(alloc, Vec::new(alloc), job, result, notes, place)?;
 //! let text = push_total(text, results)?;
 //! ```
 #![tactic(auto)]
@@ -22,4 +23,5 @@ pub use job::push_job;
 pub use line::end_line;
 pub use members::{push_cid, push_number, push_text, push_verdict};
 pub use place::ArchivePlace;
+pub use skips::SkipNotes;
 pub use total::push_total;

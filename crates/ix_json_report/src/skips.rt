@@ -1,39 +1,74 @@
 //! What was skipped.
 
+ghost use Rattle.std.specs.Prelude.{◌≡◌, option_map};
 ghost use Rattle.ix_json_report.specs.Members.{Appends};
-ghost use Rattle.ix_json_report.specs.Tokens.{reason_tokens, skip_members, skip_tokens, skips_tokens, all_skips_tokens};
+ghost use Rattle.ix_json_report.specs.Tokens.{reason_tokens, skip_members, path_tokens, skip_tokens, skips_tokens, all_skips_tokens};
+ghost use Rattle.ix_json_report.specs.Objects.{path_at};
 
-use crate::members::{push_cid, push_number, push_verdict};
+use crate::members::{push_cid, push_number, push_text, push_verdict};
 use ix_archive::Skip;
 use json::Writer;
 use std::alloc::{AllocError, Global};
 
+/// What a report has of the skips of a job besides.
+#[derive(Clone, Copy)]
+pub struct SkipNotes<'a> {
+    /// How many skips were absent, if they were counted.
+    pub absent: Option<usize>,
+    /// The paths of the skips in the report, in their order, as far as they are known.
+    pub paths: &'a [Option<String>],
+}
+
 // Appends the member with the skips of a job.
-pub(crate) fn push_skips(alloc: Global, out: &mut Writer, skips: &[Skip]) -> Result<(), AllocError>
-    ensures { Appends out.old out.new (skips_tokens skips.now) result }
+pub(crate) fn push_skips(
+    alloc: Global,
+    out: &mut Writer,
+    skips: &[Skip],
+    paths: &[Option<String>],
+) -> Result<(), AllocError>
+    ensures { Appends out.old out.new (skips_tokens paths.now skips.now) result }
 {
     out.key("skips")?;
     out.begin_array()?;
-    push_each_skip(alloc, out, skips)?;
+    push_each_skip(alloc, out, skips, paths)?;
     out.end_array()
 }
 
 // Appends the objects of skips.
-fn push_each_skip(alloc: Global, out: &mut Writer, skips: &[Skip]) -> Result<(), AllocError>
-    ensures { Appends out.old out.new (all_skips_tokens skips.now) result }
+fn push_each_skip(
+    alloc: Global,
+    out: &mut Writer,
+    skips: &[Skip],
+    paths: &[Option<String>],
+) -> Result<(), AllocError>
+    ensures { Appends out.old out.new (all_skips_tokens paths.now 0 skips.now) result }
 {
-    for skip in skips {
-        push_skip(alloc, out, skip)?;
+    for (number, skip) in skips.iter().enumerate() {
+        push_skip(alloc, out, skip, path_at(paths, number))?;
     }
     Ok(())
 }
 
+// Returns the path of the skip of this number, if it is known.
+fn path_at(paths: &[Option<String>], number: usize) -> Option<&str>
+    ensures { option_map (λ path. path.now) result ≡ path_at paths.now number }
+{
+    let path = paths.get(number)?.as_ref()?;
+    Some(path.as_str())
+}
+
 // Appends the object of a skip.
-fn push_skip(alloc: Global, out: &mut Writer, skip: &Skip) -> Result<(), AllocError>
-    ensures { Appends out.old out.new (skip_tokens skip.now) result }
+fn push_skip(
+    alloc: Global,
+    out: &mut Writer,
+    skip: &Skip,
+    path: Option<&str>,
+) -> Result<(), AllocError>
+    ensures { Appends out.old out.new (skip_tokens skip.now (option_map (λ p. p.now) path.entry)) result }
 {
     out.begin_object()?;
     push_members(alloc, out, skip)?;
+    push_path(out, path)?;
     out.end_object()
 }
 
@@ -51,4 +86,14 @@ fn push_reason(alloc: Global, out: &mut Writer, skip: &Skip) -> Result<(), Alloc
 {
     push_verdict(alloc, out, "verdict", skip.verdict)?;
     push_cid(alloc, out, &skip.cid)
+}
+
+// Appends the path of the visit that was skipped, if it is known.
+fn push_path(out: &mut Writer, path: Option<&str>) -> Result<(), AllocError>
+    ensures { Appends out.old out.new (path_tokens (option_map (λ p. p.now) path.entry)) result }
+{
+    match path {
+        Some(path) => push_text(out, "path", path),
+        None => Ok(()),
+    }
 }
