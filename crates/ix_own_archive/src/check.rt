@@ -48,7 +48,7 @@ pub fn check_archive(
 }
 
 // Returns what is wrong with the header of an archive, which isn't the one that is expected.
-fn header_reason(alloc: Global, archive: &[u8]) -> ArchiveReason
+pub(crate) fn header_reason(alloc: Global, archive: &[u8]) -> ArchiveReason
     ensures { IsHeaderReason archive.now result }
 {
     match read_header(alloc, archive) {
@@ -111,7 +111,7 @@ fn roots_are_cids(roots: &[Cid])
 }
 
 // Offers the section at the front of some bytes to a receiver, and returns the bytes after it.
-fn receive_section<'a>(
+pub(crate) fn receive_section<'a>(
     alloc: Global,
     receiver: &mut Receiver<'_>,
     bytes: &'a [u8],

@@ -15,9 +15,18 @@
 mod check;
 mod fault;
 pub mod law;
+mod stream;
+mod stream_asked;
+mod stream_bytes;
+mod stream_fault;
+#[cfg(test)]
+mod stream_tests;
 #[cfg(test)]
 mod tests;
 
 pub use check::check_archive;
 pub use fault::{ArchiveFault, ArchiveReason};
 pub use ix_receive::{AllowMissing, Counts, ReceiveFault};
+pub use stream::StreamReceiver;
+pub use stream_asked::{ExpectedHeader, StreamLimits};
+pub use stream_fault::{StreamFault, StreamReason};

@@ -9,43 +9,47 @@ use std::alloc::Global;
 use std::test::Fail;
 
 // Sections: the length of CID and block, the CID, and the block. `abc`, raw under SHA-256.
-const LEAF: &str =
+pub(crate) const LEAF: &str =
     "2701551220ba7816bf8f01cfea414140de5dae2223b00361a396177a9cb410ff61f20015ad616263";
 
 // The same, whose last byte is changed.
-const DAMAGED: &str =
+pub(crate) const DAMAGED: &str =
     "2701551220ba7816bf8f01cfea414140de5dae2223b00361a396177a9cb410ff61f20015ad616264";
 
 // A list of a link to the leaf.
-const NODE: &str = "4e0171122021e288dd95d20c03227dc4c449b3a8885fcb420f614135142435f3b33b428832\
+pub(crate) const NODE: &str =
+    "4e0171122021e288dd95d20c03227dc4c449b3a8885fcb420f614135142435f3b33b428832\
 81d82a58250001551220ba7816bf8f01cfea414140de5dae2223b00361a396177a9cb410ff61f20015ad";
 
 // A list of a link to the node.
-const INNER: &str = "4e01711220248ca8088499858ab449f8b907c08d937fb35dfa39d875f2b052805320b1bb91\
+pub(crate) const INNER: &str =
+    "4e01711220248ca8088499858ab449f8b907c08d937fb35dfa39d875f2b052805320b1bb91\
 81d82a5825000171122021e288dd95d20c03227dc4c449b3a8885fcb420f614135142435f3b33b428832";
 
 // A list of a link to that.
-const OUTER: &str = "4e01711220ef6f019fd31212249247bbeb4c0bb0a49a4784b5d4652d1c10ea8922615146b2\
+pub(crate) const OUTER: &str =
+    "4e01711220ef6f019fd31212249247bbeb4c0bb0a49a4784b5d4652d1c10ea8922615146b2\
 81d82a58250001711220248ca8088499858ab449f8b907c08d937fb35dfa39d875f2b052805320b1bb91";
 
 // The same with its length in two bytes, where one would do.
-const LONGER_OUTER: &str =
+pub(crate) const LONGER_OUTER: &str =
     "ce0001711220ef6f019fd31212249247bbeb4c0bb0a49a4784b5d4652d1c10ea8922615146b2\
 81d82a58250001711220248ca8088499858ab449f8b907c08d937fb35dfa39d875f2b052805320b1bb91";
 
 // The empty block, raw under SHA-256.
 const EMPTY: &str = "2401551220e3b0c44298fc1c149afbf4c8996fb92427ae41e4649b934ca495991b7852b855";
 
-const OUTER_CID: &str = "01711220ef6f019fd31212249247bbeb4c0bb0a49a4784b5d4652d1c10ea8922615146b2";
+pub(crate) const OUTER_CID: &str =
+    "01711220ef6f019fd31212249247bbeb4c0bb0a49a4784b5d4652d1c10ea8922615146b2";
 
 const NODE_CID: &str = "0171122021e288dd95d20c03227dc4c449b3a8885fcb420f614135142435f3b33b428832";
 
 // Headers: the length, `roots` with one link, and the version.
-const OUTER_HEADER: &str = "3aa265726f6f747381d82a582500\
+pub(crate) const OUTER_HEADER: &str = "3aa265726f6f747381d82a582500\
 01711220ef6f019fd31212249247bbeb4c0bb0a49a4784b5d4652d1c10ea8922615146b2\
 6776657273696f6e01";
 
-const NODE_HEADER: &str = "3aa265726f6f747381d82a582500\
+pub(crate) const NODE_HEADER: &str = "3aa265726f6f747381d82a582500\
 0171122021e288dd95d20c03227dc4c449b3a8885fcb420f614135142435f3b33b428832\
 6776657273696f6e01";
 
@@ -66,7 +70,7 @@ const LEAF_TWICE_HEAD: &str = "9601a265726f6f747381d82a588100";
 const VERSION: &str = "6776657273696f6e01";
 
 // The sections of the archive of the outer list.
-const CHAIN: [&str; 4] = [OUTER, INNER, NODE, LEAF];
+pub(crate) const CHAIN: [&str; 4] = [OUTER, INNER, NODE, LEAF];
 
 // The selector of everything below.
 const ALL: &str = "a16152a2616ca1646e6f6e65a0623a3ea16161a1613ea16140a0";
@@ -87,12 +91,12 @@ fn job_with(alloc: Global, root: &str, limit: u32) -> Result<Job, Fail> {
 }
 
 // The same, with a limit that is enough.
-fn job_of(alloc: Global, root: &str) -> Result<Job, Fail> {
+pub(crate) fn job_of(alloc: Global, root: &str) -> Result<Job, Fail> {
     job_with(alloc, root, 10)
 }
 
 // The bytes of hex texts, one after another.
-fn bytes_of(alloc: Global, pieces: &[&str]) -> Result<Vec<u8>, Fail> {
+pub(crate) fn bytes_of(alloc: Global, pieces: &[&str]) -> Result<Vec<u8>, Fail> {
     let mut bytes = Vec::new(alloc);
     for piece in pieces {
         let part = hex::decode(alloc, *piece)?;
