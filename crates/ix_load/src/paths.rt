@@ -1,6 +1,7 @@
 //! Paths after the CIDs of roots: how they are given, where they lead, and the selector to there.
 
 use crate::roots::MATCHER;
+use crate::segments::selector_by_segments;
 use clap::error::ErrorKind;
 use hex::FromHexError;
 use ix_cbor::{CborKind, Front, Tree, decode, read_front, read_key, skip_item};
@@ -11,9 +12,7 @@ use ix_options::CommandSpec;
 use ix_path::{
     NodeBytes, Obstacle, PathError, PathNode, PathStep, Resolution, RootPath, index_of, resolve,
 };
-use ix_path_selector::{
-    PathEnd, PathSelectorFault, selector_along, selector_by_segments, steps_along,
-};
+use ix_path_selector::{PathEnd, PathSelectorFault, selector_along, steps_along};
 use ix_selector_json::{NotationFault, fault_line};
 use ix_store::Store;
 use std::alloc::{AllocError, Global};

@@ -12,7 +12,6 @@ mod end;
 mod fault;
 pub mod law;
 mod node;
-mod segments;
 mod selector;
 mod steps;
 #[cfg(test)]
@@ -20,6 +19,5 @@ mod tests;
 
 pub use end::PathEnd;
 pub use fault::PathSelectorFault;
-pub use segments::selector_by_segments;
 pub use selector::selector_along;
 pub use steps::steps_along;

@@ -27,17 +27,14 @@ impl Rejection {
         let place = fault.place;
         match &fault.reason {
             StreamReason::Archive(reason) => archive_rejection(alloc, place, reason),
-            StreamReason::HeaderLength(length) => {
-                let detail = format!(in alloc; "a header of {length} bytes, more than 32 MiB")?;
-                Ok(Some(Rejection::by(alloc, place, "header", detail)?))
-            }
             StreamReason::SectionLength(length) => {
                 let detail = format!(in alloc;
                     "a section of {length} bytes, more than --max-block allows"
                 )?;
                 Ok(Some(Rejection::by(alloc, place, "length", detail)?))
             }
-            StreamReason::Ended => Ok(None),
+            // What is no header is no CARv1 file, and no stream that is rejected.
+            StreamReason::HeaderLength(_) | StreamReason::Ended => Ok(None),
         }
     }
 

@@ -294,13 +294,9 @@ fn ended_by(request: &Request<'_>, fault: &StreamFault, front: &[u8]) -> Result<
         return Ok(Ended::NoCar(format!(in alloc; "{kind} at 0: {is}")?));
     }
     if let StreamReason::HeaderLength(length) = &fault.reason {
-        let line = match kind_of(front) {
-            Kind::Other => format!(in alloc;
-                "header at 0: a header of {length} bytes, and a CARv1 file has at most 32 MiB"
-            )?,
-            _ => format!(in alloc; "header at 0: {}", what_it_is(front))?,
-        };
-        return Ok(Ended::NoCar(line));
+        return Ok(Ended::NoCar(format!(in alloc;
+            "header at 0: a header of {length} bytes, and a CARv1 file has at most 32 MiB"
+        )?));
     }
     match Rejection::of(alloc, fault)? {
         Some(rejection) => Ok(Ended::Rejected(rejection)),
