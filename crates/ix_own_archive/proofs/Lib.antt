@@ -11,3 +11,4 @@ mod Streams
 mod StreamHeaders
 mod StreamPieces
 mod BytesKept
+mod Cutting

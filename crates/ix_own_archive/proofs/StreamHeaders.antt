@@ -50,7 +50,7 @@ lacks-more limit job b more fits short whole lacks rest same =
       on_text (Err f) read found = absurd (cc found)
 
 -- bytes that aren't whole lack it
-lacks-cut : (limit : ℕ) (job : JobMeaning) (b : List ℕ) → length b < 2 ^ 63 → is_whole limit b ≡ Ok false → LacksHeader job b
+pub lacks-cut : (limit : ℕ) (job : JobMeaning) (b : List ℕ) → length b < 2 ^ 63 → is_whole limit b ≡ Ok false → LacksHeader job b
 lacks-cut limit job b small whole rest same =
     let short : length (header_of job.roots) < 2 ^ 63 = omega (arith, small, ap length same, length-append (header_of job.roots) rest) in
     absurd (cc (sym (text-cut limit b whole) ∙ ap text_at same ∙ jobs-text job rest short))
@@ -155,10 +155,6 @@ header-cut-off asked checked b none small whole =
 
 -- ---- a header that is expected
 
--- a header takes a byte at least
-header-some : (text : List ℕ) → length text < 2 ^ 63 → 0 < length (with_length text)
-header-some text short = omega (arith, some_group ((IsVarint-varint_of (length text) short).groups), length-append (varint_of (length text)) text)
-
 -- that of the job's roots
 pub jobs-header : (asked : Asked) (b rest : List ℕ) (n : ℕ) → asked.header ≡ OfJob → length (header_of asked.job.roots) < 2 ^ 63 → b ≡ header_of asked.job.roots ++ rest → n + length rest ≡ length b → IsHeaderAt asked b n
 jobs-header asked b rest n jobs short is size =
@@ -170,7 +166,7 @@ jobs-header asked b rest n jobs short is size =
       rest = rest;
       bytes = is;
       size = same;
-      some = omega (arith, same, header-some text few);
+      some = omega (arith, same, some_group ((IsVarint-varint_of (length text) few).groups), length-append (varint_of (length text)) text);
       expected = subst (λ (h : ExpectedHeader). IsExpected h asked.job (header_of asked.job.roots)) (sym jobs) refl;
     }
 
@@ -199,7 +195,7 @@ any-header asked b rest n any fits small read size =
       rest = rest;
       bytes = front;
       size = same;
-      some = omega (arith, same, header-some t.0 few);
+      some = omega (arith, same, some_group ((IsVarint-varint_of (length t.0) few).groups), parts);
       expected = subst (λ (h : ExpectedHeader). IsExpected h asked.job (with_length t.0)) (sym any) expected;
     }
 

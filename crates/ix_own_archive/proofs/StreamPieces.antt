@@ -56,10 +56,6 @@ kept-waits asked b r (within has cut) = for_section r has.bytes (omega (arith, h
 
 -- ---- a piece
 
--- what is checked is so with more bytes
-pub piece-checked : (asked : Asked) (b : TakenBytes) (piece : List ℕ) (new : TakenBytes) (r : Reception) → new ≡ with_piece piece b → HasChecked asked b r → HasChecked asked new r
-piece-checked asked b piece new r is has = subst (λ (n : TakenBytes). HasChecked asked n r) (sym is) (record { parts = has.parts; bytes = has.bytes })
-
 -- before a header that isn't whole with it
 pub piece-waits : (asked : Asked) (b : TakenBytes) (piece : List ℕ) (one new : TakenBytes) (r : Reception) → one ≡ with_piece piece b → b.parts ≡ 0 → IsKept asked b r → IsHeadTaken asked one new false → TakesPiece asked b piece new r
 piece-waits asked b piece one new r is first kept head =

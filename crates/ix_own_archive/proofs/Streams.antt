@@ -173,18 +173,6 @@ stops-here asked b r reason each roots has found = record { parts = some_parts r
 
 -- ---- a section that is received
 
--- a number takes a byte at least
-groups-some : (k n : ℕ) → 0 < length (groups_of k n)
-groups-some zero n = omega arith
-groups-some (suc k) n = cond_both (ltb n 128) (n ∷ []) ((n % 128 + 128) ∷ groups_of k (n / 128)) (λ (b : List ℕ). 0 < length b) (λ e. omega arith) (λ e. omega arith)
-
--- and a section too
-pub taken-some : (b : List ℕ) (old new : Reception) (n : ℕ) → HasTaken b old new n → 0 < n
-taken-some b old new n has =
-    let p = has.received.section in
-    let text = p.0 ++ p.1 in
-    omega (arith, has.size, ap length has.received.written, length-append (section_with p.0 (Some p.1)) has.rest, length-append (varint_of (length text)) text, groups-some 8 (length text))
-
 -- bytes that end in others
 pub front-taken : (n : ℕ) (b text rest : List ℕ) → b ≡ text ++ rest → n + length rest ≡ length b → (take n b ≡ text) × (drop n b ≡ rest)
 front-taken n b text rest is size =

@@ -5,7 +5,6 @@ use Rattle.std.specs.Coded.{Coded, code_by, coded×, coded_ℕ, coded_bool, code
 use Rattle.std.proofs.Common.{ap}
 use Rattle.ix_cid.specs.Cid.{IsCid}
 use Rattle.ix_cid.specs.Varint.{varint_at}
-use Rattle.ix_store.specs.Store.{Blocks}
 use Rattle.ix_walk.specs.JobMeaning.{JobMeaning, coded_job}
 use Rattle.ix_car.specs.declared.fault.CarKind.{CarKind}
 use Rattle.ix_car.specs.Reading.{header_at}
@@ -101,15 +100,11 @@ abbrev pub IsExpected : ExpectedHeader → JobMeaning → List ℕ → Type 0
 IsExpected OfJob job header = header ≡ header_of job.roots
 IsExpected Any job header = (after : List ℕ) → header_at (header ++ after) ≡ Ok after
 
--- the bytes of sections, as they are written
-abbrev pub sections_bytes : Blocks → List ℕ
-sections_bytes sections = flat_map (λ p. section_with p.0 (Some p.1)) sections
-
 -- bytes are a header that is expected and the sections received, as they are written
 pub record AreChecked (asked : Asked) (checked : List ℕ) (r : Reception) : Type 0 where
   pub header : List ℕ
   pub expected : IsExpected asked.header asked.job header
-  pub bytes : checked ≡ header ++ sections_bytes r.sections
+  pub bytes : checked ≡ header ++ flat_map (λ p. section_with p.0 (Some p.1)) r.sections
   pub same : r ≡ reception_of asked.job asked.allowed r.sections r.visits false
   pub received : AreReceived r.visits asked.job r.sections
   pub cids : AllByRecursion (λ p. IsCid p.0) r.sections
