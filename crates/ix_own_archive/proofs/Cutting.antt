@@ -1,6 +1,6 @@
 -- A stream goes on in one way, however it is cut.
-use Rattle.std.proofs.Common.{◌≡◌, ℕ, ◌+◌, ◌<◌, ◌^◌, true, false, List, [], ◌∷◌, ◌++◌, length, take, drop, refl, sym, ◌∙◌, ap, subst, arith, append_assoc, length-append}
-use Rattle.std.specs.Prelude.{Ok, Err}
+use Rattle.std.proofs.Common.{◌≡◌, ℕ, ◌<◌, ◌^◌, false, List, [], ◌∷◌, ◌++◌, length, take, drop, refl, sym, ◌∙◌, ap, arith, append_assoc, length-append}
+use Rattle.std.specs.Prelude.{Ok}
 use Rattle.std.specs.List.{AllByRecursion}
 use Rattle.std.proofs.Math.Seq.{drop-append_seam, take-append_seam}
 use Rattle.std.proofs.lemmas.List.{take_at}
@@ -10,11 +10,10 @@ use Rattle.ix_store.specs.Store.{Blocks}
 use Rattle.ix_walk.specs.JobMeaning.{JobMeaning}
 use Rattle.ix_car.specs.Reading.{Fault, header_at, section_at}
 use Rattle.ix_car.specs.Writing.{header_of}
-use Rattle.ix_receive.specs.Reception.{Reception}
 use Rattle.ix_own_archive.specs.declared.stream_asked.ExpectedHeader.{ExpectedHeader}
 use Rattle.ix_own_archive.specs.declared.stream_asked.ExpectedHeader.TheVariants.{OfJob, Any}
 use Rattle.ix_own_archive.specs.Fronts.{is_whole}
-use Rattle.ix_own_archive.specs.Streaming.{Asked, IsExpected, AreChecked, IsWaiting, for_header, for_section}
+use Rattle.ix_own_archive.specs.Streaming.{Asked, IsExpected, IsWaiting, for_header, for_section}
 use Rattle.ix_own_archive.specs.Laws.{AreTheSame}
 use Rattle.ix_own_archive.proofs.Receiving.{texts_of}
 use Rattle.ix_own_archive.proofs.Unique.{same-section}
@@ -52,8 +51,8 @@ same-list limit (p ∷ ps) (q ∷ qs) x y ps_are qs_are x_cut y_cut small same =
     let one = same-section p q (texts_of ps ++ x) (texts_of qs ++ y) ps_are.0 qs_are.0 all (sym p_whole ∙ same ∙ q_whole) in
     let fewer : length (texts_of qs ++ y) < 2 ^ 63 = omega (arith, all, length-append (text_of q) (texts_of qs ++ y)) in
     both p q ps qs x y one.pair (same-list limit ps qs x y ps_are.1 qs_are.1 x_cut y_cut fewer one.rest) where
-  both : (p q : List ℕ × List ℕ) (ps qs : Blocks) (x y : List ℕ) → p ≡ q → AreOneList ps qs x y → AreOneList (p ∷ ps) (q ∷ qs) x y
-  both p q ps qs x y same rest = record { sections = ap (λ (r : List ℕ × List ℕ). r ∷ ps) same ∙ ap (λ (l : Blocks). q ∷ l) rest.sections; rest = rest.rest }
+      both : (p q : List ℕ × List ℕ) (ps qs : Blocks) (x y : List ℕ) → p ≡ q → AreOneList ps qs x y → AreOneList (p ∷ ps) (q ∷ qs) x y
+      both p q ps qs x y same rest = record { sections = ap (λ (r : List ℕ × List ℕ). r ∷ ps) same ∙ ap (λ (l : Blocks). q ∷ l) rest.sections; rest = rest.rest }
 
 -- the same end leaves the same front
 same-front : (a b rest other : List ℕ) → a ++ rest ≡ b ++ other → rest ≡ other → a ≡ b

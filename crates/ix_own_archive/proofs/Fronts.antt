@@ -1,18 +1,20 @@
 -- What is read at the front of bytes is read the same with more after them, if it has come whole.
-use Rattle.std.proofs.Common.{◌≡◌, ℕ, ◌+◌, ◌<◌, ◌≤◌, Bool, true, false, cond, ltb, leb, eqb, get_or, List, [], ◌∷◌, ◌++◌, length, take, drop, refl, sym, ◌∙◌, ap, arith, length-append, length-drop}
+use Rattle.std.proofs.Common.{◌≡◌, ℕ, ◌+◌, ◌^◌, ◌<◌, ◌≤◌, Bool, true, false, cond, ltb, leb, eqb, get_or, List, [], ◌∷◌, ◌++◌, length, take, drop, refl, sym, ◌∙◌, ap, arith, append_assoc, length-append, length-drop}
 use Rattle.std.specs.Prelude.{Result, Ok, Err, Option, Some, None}
-use Rattle.std.proofs.lemmas.Bool.{leb-true, leb-false, le-leb, ltb-true, lt-ltb, le-ltb, eqb-false, ne_eqb}
+use Rattle.std.proofs.lemmas.Bool.{leb-true, leb-false, le-leb, ltb-true, ltb-false, lt-ltb, le-ltb, eqb-false, ne_eqb}
 use Rattle.std.proofs.lemmas.List.{get_or_append_left, take-append-le, drop-append-le}
 use Rattle.ix_cid.specs.declared.fault.VarintFault.{VarintFault}
 use Rattle.ix_cid.specs.declared.fault.VarintFault.TheVariants as varints
 use Rattle.ix_cid.specs.declared.fault.CidFault.{CidFault}
-use Rattle.ix_cid.specs.Varint.{continued, varint_at, varint_ending}
+use Rattle.ix_cid.specs.Varint.{continued, varint_of, varint_at, varint_ending}
 use Rattle.ix_cid.specs.Cid.{cid_at}
 use Rattle.ix_cid.proofs.GroupLaws.{continued_length}
+use Rattle.ix_cid.proofs.VarintLaws.{IsVarint-varint_of, varint_at-append}
 use Rattle.ix_cbor.specs.Reading.{data_at}
 use Rattle.ix_car.specs.declared.fault.CarKind.{CarKind}
 use Rattle.ix_car.specs.declared.fault.CarKind.TheVariants.{Truncated, Varint, SectionCid}
 use Rattle.ix_car.specs.Reading.{Fault, ◌>>=◌, text_at, text_after, pair_of, section_at, header_at, header_fault, behind_header}
+use Rattle.ix_car.specs.Writing.{with_length}
 use Rattle.ix_own_archive.specs.Fronts.{is_whole, is_whole_by}
 use Rattle.ix_own_archive.specs.Streaming.{IsAbove}
 
@@ -201,3 +203,14 @@ section-cut limit b is = ap (λ (r : Result (List ℕ × List ℕ) Fault). r >>=
 
 pub header-cut : (limit : ℕ) (b : List ℕ) → is_whole limit b ≡ Ok false → header_at b ≡ Err (record { kind = Truncated; left = length b })
 header-cut limit b is = ap (λ (r : Result (List ℕ × List ℕ) Fault). r >>= (λ t. behind_header b t.1 (header_fault (data_at t.0)))) (text-cut limit b is)
+
+-- a text that is whole is within the limit
+pub whole-within : (limit : ℕ) (b text rest : List ℕ) → length b < 2 ^ 63 → b ≡ with_length text ++ rest → is_whole limit b ≡ Ok true → length text ≤ limit
+whole-within limit b text rest small is whole =
+    let v = varint_of (length text) in
+    let short : length text < 2 ^ 63 = omega (arith, small, ap length is, length-append (v ++ text) rest, length-append v text) in
+    let read : varint_at b ≡ Ok (length text, length v) = ap varint_at (is ∙ append_assoc v text rest) ∙ varint_at-append v (length text) (text ++ rest) (IsVarint-varint_of (length text) short) in
+    on_limit (ltb limit (length text)) (leb (length v + length text) (length b)) refl (sym (ap (is_whole_by limit b) read) ∙ whole) where
+      on_limit : (over all : Bool) → ltb limit (length text) ≡ over → cond over (Err (length text)) (Ok all) ≡ Ok true → length text ≤ limit
+      on_limit true all is e = absurd (cc e)
+      on_limit false all is e = ltb-false limit (length text) is

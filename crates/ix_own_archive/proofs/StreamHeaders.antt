@@ -27,7 +27,7 @@ use Rattle.ix_own_archive.specs.Taking.{TakenBytes, IsHeaderAt, IsHeaderWrong, C
 use Rattle.ix_own_archive.proofs.Written.{text-after}
 use Rattle.ix_own_archive.proofs.Headers.{header-fault}
 use Rattle.ix_own_archive.proofs.Rightly.{header-not}
-use Rattle.ix_own_archive.proofs.Fronts.{with_more, text-more, header-more, above-more, above-read, text-cut, header-cut}
+use Rattle.ix_own_archive.proofs.Fronts.{with_more, text-more, header-more, above-more, above-read, text-cut, header-cut, whole-within}
 use Rattle.ix_own_archive.proofs.Streams.{front-taken}
 use Rattle.ix_verify.proofs.TextsAgain.{text_again}
 
@@ -156,9 +156,10 @@ header-cut-off asked checked b none small whole =
 -- ---- a header that is expected
 
 -- that of the job's roots
-pub jobs-header : (asked : Asked) (b rest : List ℕ) (n : ℕ) → asked.header ≡ OfJob → length (header_of asked.job.roots) < 2 ^ 63 → b ≡ header_of asked.job.roots ++ rest → n + length rest ≡ length b → IsHeaderAt asked b n
-jobs-header asked b rest n jobs short is size =
+pub jobs-header : (asked : Asked) (b rest : List ℕ) (n : ℕ) → asked.header ≡ OfJob → length b < 2 ^ 63 → is_whole asked.limits.header b ≡ Ok true → b ≡ header_of asked.job.roots ++ rest → n + length rest ≡ length b → IsHeaderAt asked b n
+jobs-header asked b rest n jobs small whole is size =
     let text = spelling_of (header_data asked.job.roots) in
+    let short : length (header_of asked.job.roots) < 2 ^ 63 = omega (arith, small, ap length is, length-append (header_of asked.job.roots) rest) in
     let few : length text < 2 ^ 63 = omega (arith, short, length-append (varint_of (length text)) text) in
     let same : n ≡ length (header_of asked.job.roots) = omega (arith, size, ap length is, length-append (header_of asked.job.roots) rest) in
     record {
@@ -168,6 +169,9 @@ jobs-header asked b rest n jobs short is size =
       size = same;
       some = omega (arith, same, some_group ((IsVarint-varint_of (length text) few).groups), length-append (varint_of (length text)) text);
       expected = subst (λ (h : ExpectedHeader). IsExpected h asked.job (header_of asked.job.roots)) (sym jobs) refl;
+      text = text;
+      spelled = refl;
+      short = whole-within asked.limits.header b text rest small is whole;
     }
 
 -- a header is good, by what is after it
@@ -176,8 +180,8 @@ good-header at rest found None h = (refl, ok_same {E = Fault} rest found h)
 good-header at rest found (Some kind) h = absurd (cc h)
 
 -- any that is read is so whatever follows
-pub any-header : (asked : Asked) (b rest : List ℕ) (n : ℕ) → asked.header ≡ Any → AreBytes b → length b < 2 ^ 63 → header_at b ≡ Ok rest → n + length rest ≡ length b → IsHeaderAt asked b n
-any-header asked b rest n any fits small read size =
+pub any-header : (asked : Asked) (b rest : List ℕ) (n : ℕ) → asked.header ≡ Any → AreBytes b → length b < 2 ^ 63 → is_whole asked.limits.header b ≡ Ok true → header_at b ≡ Ok rest → n + length rest ≡ length b → IsHeaderAt asked b n
+any-header asked b rest n any fits small whole read size =
     let text = bind_ok (text_at b) (λ t. behind_header b t.1 (header_fault (data_at t.0))) rest read in
     let t = text.0 in
     let good = good-header b t.1 rest (header_fault (data_at t.0)) text.2 in
@@ -197,6 +201,9 @@ any-header asked b rest n any fits small read size =
       size = same;
       some = omega (arith, same, some_group ((IsVarint-varint_of (length t.0) few).groups), parts);
       expected = subst (λ (h : ExpectedHeader). IsExpected h asked.job (with_length t.0)) (sym any) expected;
+      text = t.0;
+      spelled = refl;
+      short = whole-within asked.limits.header b t.0 rest small front whole;
     }
 
 -- the header is checked, and no section
@@ -211,9 +218,13 @@ header-checked asked old new r n none first is at same =
       bytes = record {
         header = at.header;
         expected = at.expected;
+        text = at.text;
+        spelled = at.spelled;
+        short = at.short;
         bytes = ap (λ (l : List ℕ). l ++ take n old.rest) none ∙ front.0 ∙ sym (append-nil at.header);
         same = refl;
         received = record { sound = tt; visited = refl };
         cids = tt;
+        within = tt;
       };
     }))

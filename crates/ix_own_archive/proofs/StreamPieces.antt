@@ -106,8 +106,9 @@ piece-lost asked b r piece new kept same =
 
 -- ---- a receiver of a stream
 
-pub takes-on : (asked : Asked) (b : TakenBytes) (piece : List ℕ) (new : TakenBytes) (r : Reception) (ended : Bool) → TakesPiece asked b piece new r → TakesOn (stream_of asked b ended) piece (stream_of asked new false)
-takes-on asked b piece new r ended takes = record {
+pub takes-on : (asked : Asked) (b : TakenBytes) (piece : List ℕ) (new : TakenBytes) (r : Reception) (ended : Bool) → ended ≡ false → TakesPiece asked b piece new r → TakesOn (stream_of asked b ended) piece (stream_of asked new false)
+takes-on asked b piece new r ended was takes = record {
+  was_going = was;
   asked = refl;
   taken = piece-taken b piece new takes.moved;
   released = takes.moved.released;
@@ -115,14 +116,15 @@ takes-on asked b piece new r ended takes = record {
   going = record { going = refl; waits = kept-waits asked new r takes.kept };
 }
 
-pub stops-at : (asked : Asked) (b : TakenBytes) (piece : List ℕ) (new : TakenBytes) (ended : Bool) (reason : StreamReason) (place : ℕ) → place ≡ length new.checked → StopsAtPiece asked b piece new reason
+pub stops-at : (asked : Asked) (b : TakenBytes) (piece : List ℕ) (new : TakenBytes) (ended : Bool) (reason : StreamReason) (place : ℕ) → ended ≡ false → place ≡ length new.checked → StopsAtPiece asked b piece new reason
     → StopsAt (stream_of asked b ended) (stream_of asked new true) place
-stops-at asked b piece new ended reason place is stops = record {
+stops-at asked b piece new ended reason place was is stops = record {
   asked = refl;
   released = stops.released;
   grown = stops.grown;
   parts = stops.parts;
   ended = refl;
+  stays = λ stopped. absurd (cc (was, stopped));
   offset = is;
 }
 
@@ -130,7 +132,7 @@ stops-at asked b piece new ended reason place is stops = record {
 pub stays-stopped : (asked : Asked) (b : TakenBytes) (r : Reception) (ended : Bool) (s : Stream) (place : ℕ) → stream_of asked b ended ≡ s → ended ≡ true → IsHeld asked b r ended → place ≡ length b.checked → StopsAt s s place
 stays-stopped asked b r ended s place is stopped held at =
     subst (λ (x : Stream). StopsAt x x place) is
-    (record { asked = refl; released = refl; grown = ([], sym (append-nil b.checked)); parts = held.parts; ended = stopped; offset = at })
+    (record { asked = refl; released = refl; grown = ([], sym (append-nil b.checked)); parts = held.parts; ended = stopped; stays = λ _. refl; offset = at })
 
 stopped-with : (s : Stream) (piece : List ℕ) (place : ℕ) (reason : StreamReason) → ((more : List ℕ) → IsStop s.asked ((taken_of s ++ piece) ++ more) place reason) → IsStoppedAt s piece place reason
 stopped-with s piece place (Archive reason) stop = stop

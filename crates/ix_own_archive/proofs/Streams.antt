@@ -1,13 +1,12 @@
 -- A stream as far as it is checked, and what stops it, whatever follows.
-use Rattle.std.proofs.Common.{◌≡◌, ℕ, zero, suc, ◌+◌, ◌/◌, ◌%◌, ◌<◌, ◌^◌, ltb, true, List, [], ◌∷◌, ◌++◌, length, take, drop, refl, sym, ◌∙◌, ap, subst, arith, append_assoc, append-nil, length-append, take-append-drop}
+use Rattle.std.proofs.Common.{◌≡◌, ℕ, ◌+◌, ◌<◌, ◌≤◌, ◌^◌, true, List, [], ◌∷◌, ◌++◌, length, take, drop, refl, sym, ◌∙◌, ap, subst, arith, append_assoc, append-nil, length-append, take-append-drop}
 use Rattle.std.specs.Prelude.{Some, Ok}
 use Rattle.std.specs.List.{AllByRecursion}
-use Rattle.std.proofs.lemmas.Bool.{cond_both}
 use Rattle.std.proofs.lemmas.List.{take_at, drop_at}
-use Rattle.ix_cid.specs.Varint.{varint_of, groups_of}
 use Rattle.ix_cid.specs.Cid.{IsCid}
 use Rattle.ix_cid.proofs.Results.{ok_same}
 use Rattle.ix_walk.specs.JobMeaning.{JobMeaning}
+use Rattle.ix_walk.proofs.Links.{all-append}
 use Rattle.ix_car.specs.Reading.{Fault, header_at}
 use Rattle.ix_car.specs.Writing.{header_of, section_with}
 use Rattle.ix_receive.specs.Own.{archive_bytes}
@@ -180,7 +179,7 @@ front-taken n b text rest is size =
     (ap (take n) is ∙ take_at text rest n same, ap (drop n) is ∙ drop_at text rest n same)
 
 -- the header and the sections with one more
-one-checked : (asked : Asked) (checked rest : List ℕ) (n : ℕ) (old new : Reception) → AreChecked asked checked old → HasTaken rest old new n → AreChecked asked (checked ++ take n rest) new
+one-checked : (asked : Asked) (checked rest : List ℕ) (n : ℕ) (old new : Reception) → AreChecked asked checked old → HasTaken asked.limits.section rest old new n → AreChecked asked (checked ++ take n rest) new
 one-checked asked checked rest n old new are has =
     let far = one-more-so-far asked.job asked.allowed (archive_bytes asked.job.roots old.sections ++ rest) rest has.rest old new (so-far asked checked old are rest) has.received in
     let p = has.received.section in
@@ -191,15 +190,20 @@ one-checked asked checked rest n old new are has =
     record {
       header = are.header;
       expected = are.expected;
+      text = are.text;
+      spelled = are.spelled;
+      short = are.short;
       bytes = ap (λ (l : List ℕ). checked ++ l) taken.0 ∙ ap (λ (l : List ℕ). l ++ text) are.bytes ∙ append_assoc are.header (texts_of old.sections) text
           ∙ ap of_texts (sym (texts-more old.sections p) ∙ ap texts_of (sym added));
       same = far.up.same;
       received = far.up.received;
       cids = far.cids;
+      within = subst (AllByRecursion (λ (q : List ℕ × List ℕ). length (q.0 ++ q.1) ≤ asked.limits.section)) (sym added)
+          (all-append (λ (q : List ℕ × List ℕ). length (q.0 ++ q.1) ≤ asked.limits.section) old.sections (p ∷ []) are.within (has.short, tt));
     }
 
 -- and one part more
-pub one-more-checked : (asked : Asked) (old new : TakenBytes) (r s : Reception) (n : ℕ) → HasChecked asked old r → HasTaken old.rest r s n
+pub one-more-checked : (asked : Asked) (old new : TakenBytes) (r s : Reception) (n : ℕ) → HasChecked asked old r → HasTaken asked.limits.section old.rest r s n
     → new ≡ record { checked = old.checked ++ take n old.rest; rest = drop n old.rest; released = old.released; parts = old.parts + 1 } → HasChecked asked new s
 one-more-checked asked old new r s n has taken is =
     let added : s.sections ≡ r.sections ++ taken.received.section ∷ [] = ap (λ (x : Reception). x.sections) taken.received.receives.after in

@@ -1,5 +1,5 @@
 -- A receiver of a stream as contracts see it, and what is found of a stream.
-use Rattle.std.specs.Prelude.{◌≡◌, ℕ, ◌+◌, ◌<◌, ◌^◌, Bool, true, false, List, [], ◌++◌, length, flat_map, Some, Ok, Err, refl}
+use Rattle.std.specs.Prelude.{◌≡◌, ℕ, ◌+◌, ◌<◌, ◌≤◌, ◌^◌, Bool, true, false, List, [], ◌++◌, length, flat_map, Some, Ok, Err, refl}
 use Rattle.std.specs.List.{AllByRecursion}
 use Rattle.std.specs.Coded.{Coded, code_by, coded×, coded_ℕ, coded_bool, coded_list}
 use Rattle.std.proofs.Common.{ap}
@@ -8,7 +8,7 @@ use Rattle.ix_cid.specs.Varint.{varint_at}
 use Rattle.ix_walk.specs.JobMeaning.{JobMeaning, coded_job}
 use Rattle.ix_car.specs.declared.fault.CarKind.{CarKind}
 use Rattle.ix_car.specs.Reading.{header_at}
-use Rattle.ix_car.specs.Writing.{header_of, section_with}
+use Rattle.ix_car.specs.Writing.{with_length, header_of, section_with}
 use Rattle.ix_receive.specs.declared.allow_missing.AllowMissing.{AllowMissing}
 use Rattle.ix_receive.specs.declared.counts.Counts.{Counts}
 use Rattle.ix_receive.specs.Receiving.{AreReceived}
@@ -100,14 +100,18 @@ abbrev pub IsExpected : ExpectedHeader → JobMeaning → List ℕ → Type 0
 IsExpected OfJob job header = header ≡ header_of job.roots
 IsExpected Any job header = (after : List ℕ) → header_at (header ++ after) ≡ Ok after
 
--- bytes are a header that is expected and the sections received, as they are written
+-- bytes are a header that is expected and the sections received, as they are written, each within its limit
 pub record AreChecked (asked : Asked) (checked : List ℕ) (r : Reception) : Type 0 where
   pub header : List ℕ
   pub expected : IsExpected asked.header asked.job header
+  pub text : List ℕ
+  pub spelled : header ≡ with_length text
+  pub short : length text ≤ asked.limits.header
   pub bytes : checked ≡ header ++ flat_map (λ p. section_with p.0 (Some p.1)) r.sections
   pub same : r ≡ reception_of asked.job asked.allowed r.sections r.visits false
   pub received : AreReceived r.visits asked.job r.sections
   pub cids : AllByRecursion (λ p. IsCid p.0) r.sections
+  pub within : AllByRecursion (λ p. length (p.0 ++ p.1) ≤ asked.limits.section) r.sections
 
 -- bytes that are checked: none, or a header that is expected and so many sections
 pub data AreParts (asked : Asked) (checked : List ℕ) (sections : ℕ) : Type 0 where
@@ -126,19 +130,21 @@ pub record IsGoing (s : Stream) : Type 0 where
 
 -- it took a piece, and goes on
 pub record TakesOn (old : Stream) (piece : List ℕ) (new : Stream) : Type 0 where
+  pub was_going : old.ended ≡ false
   pub asked : new.asked ≡ old.asked
   pub taken : taken_of new ≡ taken_of old ++ piece
   pub released : new.released ≡ old.released
   pub grown : (more : List ℕ) × (new.checked ≡ old.checked ++ more)
   pub going : IsGoing new
 
--- it stops: it has ended, and the bytes that are checked are those before the offset of the fault
+-- it stops: it has ended, and stays as it is if it had; the bytes that are checked are those before the offset of the fault
 pub record StopsAt (old : Stream) (new : Stream) (place : ℕ) : Type 0 where
   pub asked : new.asked ≡ old.asked
   pub released : new.released ≡ old.released
   pub grown : (more : List ℕ) × (new.checked ≡ old.checked ++ more)
   pub parts : AreParts new.asked new.checked new.sections
   pub ended : new.ended ≡ true
+  pub stays : old.ended ≡ true → new ≡ old
   pub offset : place ≡ length new.checked
 
 -- the archive that a stream is: itself, or what is after its header under the header of the job's roots, if any header is expected

@@ -3,6 +3,7 @@ use Rattle.std.specs.Prelude.{◌≡◌, ℕ, suc, ◌+◌, ◌-◌, ◌<◌, �
 use Rattle.std.specs.Coded.{Coded, code_by, coded×, coded_ℕ, coded_list}
 use Rattle.ix_walk.specs.JobMeaning.{JobMeaning}
 use Rattle.ix_car.specs.Reading.{header_at}
+use Rattle.ix_car.specs.Writing.{with_length}
 use Rattle.ix_receive.specs.Reception.{Reception, nothing_received}
 use Rattle.ix_own_archive.specs.declared.fault.ArchiveReason.{ArchiveReason}
 use Rattle.ix_own_archive.specs.declared.fault.ArchiveReason.TheVariants.{Header, OtherHeader, Section, Refused, Unfinished, Memory}
@@ -84,6 +85,9 @@ pub record IsHeaderAt (asked : Asked) (b : List ℕ) (n : ℕ) : Type 0 where
   pub size : n ≡ length header
   pub some : 0 < n
   pub expected : IsExpected asked.header asked.job header
+  pub text : List ℕ
+  pub spelled : header ≡ with_length text
+  pub short : length text ≤ asked.limits.header
 
 -- so many bytes at the front are a header that can be read
 pub record IsAnyHeader (b : List ℕ) (n : ℕ) : Type 0 where
@@ -91,16 +95,17 @@ pub record IsAnyHeader (b : List ℕ) (n : ℕ) : Type 0 where
   pub read : header_at b ≡ Ok rest
   pub size : n + length rest ≡ length b
 
--- the section of so many bytes at the front was received
-pub record HasTaken (b : List ℕ) (old new : Reception) (n : ℕ) : Type 0 where
+-- the section of so many bytes at the front, within the limit, was received
+pub record HasTaken (limit : ℕ) (b : List ℕ) (old new : Reception) (n : ℕ) : Type 0 where
   pub rest : List ℕ
   pub received : HasReceived b rest old new
   pub size : n + length rest ≡ length b
+  pub short : length (received.section.0 ++ received.section.1) ≤ limit
 
 -- what is found of the section at the front: it isn't whole, or it was received
 abbrev pub IsNext : ℕ → List ℕ → Reception → Reception → Option ℕ → Type 0
 IsNext limit b old new None = (new ≡ old) × (is_whole limit b ≡ Ok false)
-IsNext limit b old new (Some n) = HasTaken b old new n
+IsNext limit b old new (Some n) = HasTaken limit b old new n
 
 -- or it is refused, for this reason
 abbrev pub IsNotNext : ℕ → List ℕ → Reception → StreamReason → Type 0

@@ -1,6 +1,6 @@
 //! The receiver of an archive as a stream.
 
-ghost use Rattle.std.specs.Prelude.{◌≡◌, [], length, drop, IfOk, IfErr, OnOk};
+ghost use Rattle.std.specs.Prelude.{◌≡◌, false, length, drop, IfOk, IfErr, OnOk};
 ghost use Rattle.ix_own_archive.specs.Streaming.{nothing_taken, TakesOn, StopsAt, IsStoppedAt, IsWholeStream, taken_of, IsCutAt};
 
 use crate::stream_asked::{ExpectedHeader, StreamLimits};
@@ -135,6 +135,7 @@ impl<'s> StreamReceiver<'s> {
     /// Ends the stream, of which nothing more is checked then. The sections are then the own archive of
     /// the job, and no block is missing that may not be.
     pub fn finish(self) -> Result<Counts, StreamFault>
+        ensures going { OnOk result (self.entry.ended ≡ false) }
         ensures whole { IfOk result (IsWholeStream self.entry.asked (taken_of self.entry)) }
         ensures fault { IfErr result (λ e. IsCutAt self.entry e.place e.reason) }
     {

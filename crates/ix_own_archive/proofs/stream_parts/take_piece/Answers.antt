@@ -1,7 +1,7 @@
 use Rattle.std.proofs.Common.{◌≡◌, Bool, sym, ◌∙◌, ap, subst, arith}
-use Rattle.std.proofs.lemmas.Result.{IfErr-weaker}
+use Rattle.std.proofs.lemmas.Result.{on_ok_weaker, IfErr-weaker}
 use Rattle.ix_own_archive.specs.Requests.{asked_of}
-use Rattle.ix_own_archive.specs.Taking.{TakenBytes, with_piece, MovesOn, IsHeadTaken}
+use Rattle.ix_own_archive.specs.Taking.{TakenBytes, with_piece, MovesOn, IsHeadTaken, IsKept, TakesPiece}
 use Rattle.ix_own_archive.proofs.Streams.{not-moved, moves-on}
 use Rattle.ix_own_archive.proofs.StreamPieces.{piece-lost, piece-stops, piece-waits, piece-headed}
 use Rattle.ix_own_archive.proofs.stream_parts.take_piece.Goals as goal
@@ -18,6 +18,30 @@ returns-then-parts-gt0-clause-stops c =
     IfErr-weaker c.take_sections.result _ _
     (λ reason here. piece-stops (asked_of c.args.request.now) c.args.bytes.now c.args.piece.now new reason moved here)
     c.take_sections.ensures.stops
+
+pub take_sections-requires-in-Ok-true : goal.take_sections-requires-in-Ok-true
+take_sections-requires-in-Ok-true c =
+    let is : c.push.new.self ≡ with_piece c.args.piece.now c.args.bytes.now = c.in-Ok.ensures.taken in
+    let asked = asked_of c.args.request.now in
+    let one = c.push.new.self in
+    let two = c.take_header.new.bytes in
+    let first : c.args.bytes.now.parts ≡ 0 = omega (arith, c.if-parts-gt0.false, c.parts.ensures, ap (λ (b : TakenBytes). b.parts) is) in
+    let head = subst (λ (t : Bool). IsHeadTaken asked one two t) c.in-Ok-true.field-0-test c.in-Ok-true.ensures.found in
+    (piece-headed asked c.args.bytes.now c.args.piece.now one two c.args.receiver.now is first c.requires head).0
+
+pub returns-in-Ok-true-clause-taken : goal.returns-in-Ok-true-clause-taken
+returns-in-Ok-true-clause-taken c =
+    let is : c.push.new.self ≡ with_piece c.args.piece.now c.args.bytes.now = c.in-Ok.ensures.taken in
+    let asked = asked_of c.args.request.now in
+    let one = c.push.new.self in
+    let two = c.take_header.new.bytes in
+    let new = c.take_sections-in-Ok-true.new.bytes in
+    let s = c.take_sections-in-Ok-true.new.receiver in
+    let first : c.args.bytes.now.parts ≡ 0 = omega (arith, c.if-parts-gt0.false, c.parts.ensures, ap (λ (b : TakenBytes). b.parts) is) in
+    let head = subst (λ (t : Bool). IsHeadTaken asked one two t) c.in-Ok-true.field-0-test c.in-Ok-true.ensures.found in
+    let headed = piece-headed asked c.args.bytes.now c.args.piece.now one two c.args.receiver.now is first c.requires head in
+    let moved = moves-on (with_piece c.args.piece.now c.args.bytes.now) two new headed.1 c.take_sections-in-Ok-true.ensures.moved in
+    on_ok_weaker {P = IsKept asked new s} {Q = TakesPiece asked c.args.bytes.now c.args.piece.now new s} c.take_sections-in-Ok-true.result (λ kept. record { moved = moved; kept = kept }) c.take_sections-in-Ok-true.ensures.kept
 
 pub returns-in-Ok-true-clause-stops : goal.returns-in-Ok-true-clause-stops
 returns-in-Ok-true-clause-stops c =

@@ -16,7 +16,7 @@ loop-length-preserved c =
     let s = c.next_section.new.receiver in
     let n = c.in-Ok-Some.length in
     let next = subst (λ (o : Option ℕ). IsNext asked.limits.section c.rest.result.now r s o) c.in-Ok-Some.field-0-is c.in-Ok-Some.ensures.next in
-    let taken = subst (λ (l : List ℕ). HasTaken l r s n) c.rest.ensures next in
+    let taken = subst (λ (l : List ℕ). HasTaken asked.limits.section l r s n) c.rest.ensures next in
     (moved-more c.args.bytes.now old new n c.loop-length.invariant.0 c.advance.ensures, one-more-checked asked old new r s n c.loop-length.invariant.1 taken c.advance.ensures)
 
 pub returns-in-Err-clause-stops : goal.returns-in-Err-clause-stops

@@ -15,7 +15,7 @@ returns-in-Ok-clause-taken c =
     let s = c.self.inside in
     let asked = asked_of s.request in
     let new = c.take_piece.new.bytes in
-    subst (λ (x : Stream). TakesOn x c.args.piece.now (stream_of asked new false)) c.self.view_is (takes-on asked s.bytes c.args.piece.now new c.take_piece.new.receiver s.ended c.in-Ok.ensures.taken)
+    subst (λ (x : Stream). TakesOn x c.args.piece.now (stream_of asked new false)) c.self.view_is (takes-on asked s.bytes c.args.piece.now new c.take_piece.new.receiver s.ended c.if-self.false c.in-Ok.ensures.taken)
 
 pub returns-in-Err-clause-stops : goal.returns-in-Err-clause-stops
 returns-in-Err-clause-stops c =
@@ -23,7 +23,7 @@ returns-in-Err-clause-stops c =
     let asked = asked_of s.request in
     let new = c.take_piece.new.bytes in
     subst (λ (x : Stream). StopsAt x (stream_of asked new true) c.place-in-Err.result) c.self.view_is
-    (stops-at asked s.bytes c.args.piece.now new s.ended c.in-Err.reason c.place-in-Err.result c.place-in-Err.ensures c.in-Err.ensures.stops)
+    (stops-at asked s.bytes c.args.piece.now new s.ended c.in-Err.reason c.place-in-Err.result c.if-self.false c.place-in-Err.ensures c.in-Err.ensures.stops)
 
 pub returns-in-Err-clause-fault : goal.returns-in-Err-clause-fault
 returns-in-Err-clause-fault c =
