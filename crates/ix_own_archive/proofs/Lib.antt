@@ -6,3 +6,9 @@ mod Visited
 mod Unique
 mod Rightly
 mod Exported
+mod Fronts
+mod Streams
+mod StreamHeaders
+mod StreamPieces
+mod BytesKept
+mod Cutting

@@ -32,12 +32,12 @@ some-section p rest h =
     omega arith
 
 -- two sections at the front of the same bytes
-record AreOne (p q : List ℕ × List ℕ) (x y : List ℕ) : Type 0 where
+pub record AreOne (p q : List ℕ × List ℕ) (x y : List ℕ) : Type 0 where
   pub pair : p ≡ q
   pub rest : x ≡ y
 
 -- are one
-same-section : (p q : List ℕ × List ℕ) (x y : List ℕ) → HasCid p → HasCid q → length (text_of q ++ y) < 2 ^ 63 → text_of p ++ x ≡ text_of q ++ y → AreOne p q x y
+pub same-section : (p q : List ℕ × List ℕ) (x y : List ℕ) → HasCid p → HasCid q → length (text_of q ++ y) < 2 ^ 63 → text_of p ++ x ≡ text_of q ++ y → AreOne p q x y
 same-section p q x y p_is q_is small same =
     let p_size = length-append (varint_of (length (p.0 ++ p.1))) (p.0 ++ p.1) in
     let q_size = length-append (varint_of (length (q.0 ++ q.1))) (q.0 ++ q.1) in

@@ -34,7 +34,7 @@ text-parts b n k room spelled =
     ∙ ap (λ (l : List ℕ). take k b ++ l) (take-append-drop n (drop k b)) ∙ take-append-drop k b)
 
 -- a text that is read has its length before it
-text-after : (b : List ℕ) (t : List ℕ × List ℕ) (r : Result (ℕ × ℕ) VarintFault) → AreBytes b → varint_at b ≡ r → text_after b r ≡ Ok t → b ≡ with_length t.0 ++ t.1
+pub text-after : (b : List ℕ) (t : List ℕ × List ℕ) (r : Result (ℕ × ℕ) VarintFault) → AreBytes b → varint_at b ≡ r → text_after b r ≡ Ok t → b ≡ with_length t.0 ++ t.1
 text-after b t (Ok v) fits is h =
     let read : Result (List ℕ × List ℕ) Fault = Ok (take v.0 (drop v.1 b), drop (v.1 + v.0) b) in
     let enough = past_test (ltb (length b) (v.1 + v.0)) (record { kind = Truncated; left = length b }) read t h in

@@ -8,6 +8,9 @@ use Rattle.ix_receive.specs.declared.fault.ReceiveFault.TheVariants as received
 use Rattle.ix_own_archive.specs.declared.fault.ArchiveReason.{ArchiveReason}
 use Rattle.ix_own_archive.specs.declared.fault.ArchiveReason.TheVariants.{Header, OtherHeader, Section, Refused, Unfinished, Memory}
 use Rattle.ix_own_archive.specs.declared.fault.ArchiveFault.{ArchiveFault}
+use Rattle.ix_own_archive.specs.declared.stream_fault.StreamReason.{StreamReason}
+use Rattle.ix_own_archive.specs.declared.stream_fault.StreamReason.TheVariants.{Archive, HeaderLength, SectionLength, Ended}
+use Rattle.ix_own_archive.specs.declared.stream_fault.StreamFault.{StreamFault}
 
 -- the words for a receiver's fault, in ASCII
 abbrev pub refusal_words : ReceiveFault → List ℕ
@@ -32,3 +35,14 @@ reason_words Memory = codes "memory"
 -- the offset before them
 abbrev pub fault_words : ArchiveFault → List ℕ
 fault_words e = decimal e.place ++ codes ": " ++ reason_words e.reason
+
+-- the words for what is wrong with a stream
+abbrev pub stream_words : StreamReason → List ℕ
+stream_words (Archive reason) = reason_words reason
+stream_words (HeaderLength n) = codes "header: " ++ decimal n ++ codes " bytes"
+stream_words (SectionLength n) = codes "section: " ++ decimal n ++ codes " bytes"
+stream_words Ended = codes "ended"
+
+-- the offset before them
+abbrev pub stream_fault_words : StreamFault → List ℕ
+stream_fault_words e = decimal e.place ++ codes ": " ++ stream_words e.reason

@@ -1,3 +1,7 @@
 pub mod Checking
 pub mod FaultWords
 pub mod Laws
+pub mod Fronts
+pub mod Streaming
+pub mod Taking
+pub mod Requests

@@ -102,7 +102,7 @@ fn check_sections(
 }
 
 // States that roots are CIDs.
-fn roots_are_cids(roots: &[Cid])
+pub(crate) fn roots_are_cids(roots: &[Cid])
     ensures { AllByRecursion IsCid roots.now }
 {
     for root in roots {

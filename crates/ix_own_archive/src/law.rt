@@ -1,6 +1,6 @@
-//! The law of archives that are exported and checked.
+//! Laws of archives that are checked.
 
-ghost use Rattle.ix_own_archive.specs.Laws.{ExportedIsNotRefused};
+ghost use Rattle.ix_own_archive.specs.Laws.{ExportedIsNotRefused, StreamIsOfItsBytes};
 
 use ix_receive::law;
 
@@ -12,3 +12,9 @@ pub fn exported_is_not_refused()
 {
     law::archive_is_its_own();
 }
+
+/// States that a stream that goes on is the same however it was cut into pieces: which of its bytes are
+/// checked, and how many sections, depends on its bytes alone.
+pub fn stream_is_of_its_bytes()
+    ensures { StreamIsOfItsBytes }
+{}

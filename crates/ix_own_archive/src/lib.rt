@@ -19,6 +19,8 @@ mod stream;
 mod stream_asked;
 mod stream_bytes;
 mod stream_fault;
+mod stream_parts;
+mod stream_request;
 #[cfg(test)]
 mod stream_tests;
 #[cfg(test)]

@@ -1,25 +1,25 @@
 //! The receiver of an archive as a stream.
 
-use crate::check::{header_reason, receive_section};
-use crate::fault::ArchiveReason;
+ghost use Rattle.std.specs.Prelude.{◌≡◌, false, length, drop, IfOk, IfErr, OnOk};
+ghost use Rattle.ix_own_archive.specs.Streaming.{nothing_taken, TakesOn, StopsAt, IsStoppedAt, IsWholeStream, taken_of, IsCutAt};
+
 use crate::stream_asked::{ExpectedHeader, StreamLimits};
 use crate::stream_bytes::StreamBytes;
 use crate::stream_fault::{StreamFault, StreamReason};
-use ix_car::{CarFault, CarKind, header_of, read_header};
-use ix_cid::{VarintFault, read_varint};
+use crate::stream_parts::{end_stream, take_piece};
+use crate::stream_request::StreamRequest;
+use ix_car::header_of;
 use ix_receive::{AllowMissing, Counts, Receiver};
 use ix_walk::Job;
 use std::alloc::{AllocError, Global};
+use std::marker::Model;
 
 /// A receiver of the bytes of an archive, in pieces of any size: it checks that they are the own
 /// archive of a job, as `check_archive` does, and at each section as soon as it is whole.
 ///
 /// It keeps the bytes that are not checked, those that were not released, and what a `Receiver` keeps.
 pub struct StreamReceiver<'s> {
-    alloc: Global,
-    limits: StreamLimits,
-    // The header that is expected byte for byte, if one is.
-    expected: Option<Vec<u8>>,
+    request: StreamRequest<'s>,
     receiver: Receiver<'s>,
     bytes: StreamBytes,
     ended: bool,
@@ -29,134 +29,30 @@ pub struct StreamReceiver<'s> {
 impl<'s> Drop for StreamReceiver<'s> {
     fn drop(self) {
         let StreamReceiver {
-            alloc: _,
-            limits: _,
-            expected,
+            request,
             receiver,
             bytes,
             ended: _,
         } = self;
-        drop(expected);
+        drop(request);
         drop(receiver);
         drop(bytes);
     }
 }
 
-// Whether the bytes at the front with their length before them are all there, or their length if it is
-// above the limit. It is also true if the length isn't a varint.
-fn is_whole(limit: usize, bytes: &[u8]) -> Result<bool, u64> {
-    match read_varint(bytes) {
-        Ok((length, size)) => {
-            if length > limit as u64 {
-                return Err(length);
-            }
-            Ok(length <= (bytes.len() - size) as u64)
-        }
-        Err(VarintFault::Truncated) => Ok(false),
-        Err(VarintFault::TooLong | VarintFault::NotMinimal) => Ok(true),
-    }
-}
+impl<'s> Model for StreamReceiver<'s> {
+    ghost use Rattle.ix_own_archive.specs.Streaming.{Stream, coded_stream};
 
-// Returns the length of the header at the front, which is whole, or what is wrong with it.
-fn header_length(
-    alloc: Global,
-    expected: &Option<Vec<u8>>,
-    bytes: &[u8],
-) -> Result<usize, ArchiveReason> {
-    match expected {
-        Some(header) => {
-            if bytes.starts_with(header.as_slice()) {
-                Ok(header.len())
-            } else {
-                Err(header_reason(alloc, bytes))
-            }
-        }
-        None => any_header_length(alloc, bytes),
-    }
-}
+    ghost Value = { Stream };
 
-fn any_header_length(alloc: Global, bytes: &[u8]) -> Result<usize, ArchiveReason> {
-    match read_header(alloc, bytes) {
-        Ok((_, rest)) => Ok(bytes.len() - rest.len()),
-        Err(
-            CarFault {
-                kind: CarKind::Memory,
-                place: _,
-            },
-        ) => Err(ArchiveReason::Memory),
-        Err(fault) => Err(ArchiveReason::Header(fault.kind)),
-    }
-}
+    ghost coded = { coded_stream };
 
-// Checks the header, if it is whole and was not checked before.
-fn take_header(
-    alloc: Global,
-    limit: usize,
-    expected: &Option<Vec<u8>>,
-    bytes: &mut StreamBytes,
-) -> Result<(), StreamReason> {
-    if bytes.parts() > 0 {
-        return Ok(());
-    }
-    match is_whole(limit, bytes.rest()) {
-        Ok(false) => Ok(()),
-        Ok(true) => match header_length(alloc, expected, bytes.rest()) {
-            Ok(length) => {
-                bytes.advance(length);
-                Ok(())
-            }
-            Err(reason) => Err(StreamReason::Archive(reason)),
-        },
-        Err(length) => Err(StreamReason::HeaderLength(length)),
-    }
-}
+    ghost use Rattle.ix_own_archive.specs.Requests.{asked_of};
+    ghost use Rattle.ix_own_archive.specs.Taking.{stream_of, IsHeld};
 
-// Offers the section at the front to a receiver, if it is whole, and returns how many bytes it takes.
-fn next_section(
-    alloc: Global,
-    limit: usize,
-    receiver: &mut Receiver<'_>,
-    bytes: &[u8],
-) -> Result<Option<usize>, StreamReason> {
-    match is_whole(limit, bytes) {
-        Ok(false) => Ok(None),
-        Ok(true) => match receive_section(alloc, receiver, bytes) {
-            Ok(rest) => Ok(Some(bytes.len() - rest.len())),
-            Err(reason) => Err(StreamReason::Archive(reason)),
-        },
-        Err(length) => Err(StreamReason::SectionLength(length)),
-    }
-}
+    ghost view = { λ s. stream_of (asked_of s.request) s.bytes s.ended };
 
-// Checks the sections that are whole.
-fn take_sections(
-    alloc: Global,
-    limit: usize,
-    receiver: &mut Receiver<'_>,
-    bytes: &mut StreamBytes,
-) -> Result<(), StreamReason> {
-    while let Some(length) = next_section(alloc, limit, receiver, bytes.rest())? {
-        bytes.advance(length);
-    }
-    Ok(())
-}
-
-// Ends a stream.
-fn end_of(
-    alloc: Global,
-    receiver: Receiver<'_>,
-    bytes: &StreamBytes,
-) -> Result<Counts, ArchiveReason> {
-    if bytes.parts() == 0 {
-        return Err(header_reason(alloc, bytes.rest()));
-    }
-    if !bytes.rest().is_empty() {
-        return Err(ArchiveReason::Section(CarKind::Truncated));
-    }
-    match receiver.finish() {
-        Ok(counts) => Ok(counts),
-        Err(fault) => Err(ArchiveReason::Unfinished(fault)),
-    }
+    ghost invariant = { λ s. IsHeld (asked_of s.request) s.bytes s.receiver s.ended };
 }
 
 impl<'s> StreamReceiver<'s> {
@@ -168,15 +64,20 @@ impl<'s> StreamReceiver<'s> {
         allowed: AllowMissing,
         header: ExpectedHeader,
         limits: StreamLimits,
-    ) -> Result<StreamReceiver<'s>, AllocError> {
-        let expected = match header {
-            ExpectedHeader::OfJob => Some(header_of(alloc, job.roots())?),
-            ExpectedHeader::Any => None,
-        };
+    ) -> Result<StreamReceiver<'s>, AllocError>
+        ensures { IfOk result (λ s. s ≡ nothing_taken
+            (record { job = job.now; allowed = allowed; header = header; limits = limits })) }
+    {
+        let jobs_header = header_of(alloc, job.roots())?;
         Ok(StreamReceiver {
-            alloc,
-            limits,
-            expected,
+            request: StreamRequest {
+                alloc,
+                job,
+                allowed,
+                header,
+                limits,
+                jobs_header,
+            },
             receiver: Receiver::new(alloc, job, allowed),
             bytes: StreamBytes::new(alloc),
             ended: false,
@@ -185,9 +86,23 @@ impl<'s> StreamReceiver<'s> {
 
     /// Takes the next bytes, and checks the header and each section that they complete. After an error
     /// nothing more is taken.
-    pub fn append(&mut self, piece: &[u8]) -> Result<(), StreamFault> {
-        match self.take(piece) {
-            Ok(()) => Ok(()),
+    pub fn append(&mut self, piece: &[u8]) -> Result<(), StreamFault>
+        ensures taken { OnOk result (TakesOn self.old piece.now self.new) }
+        ensures stops { IfErr result (λ e. StopsAt self.old self.new e.place) }
+        ensures fault { IfErr result (λ e. IsStoppedAt self.old piece.now e.place e.reason) }
+    {
+        if self.ended {
+            return Err(StreamFault {
+                place: self.bytes.place(),
+                reason: StreamReason::Ended,
+            });
+        }
+        self.ended = true;
+        match take_piece(&self.request, &mut self.receiver, &mut self.bytes, piece) {
+            Ok(()) => {
+                self.ended = false;
+                Ok(())
+            }
             Err(reason) => Err(StreamFault {
                 place: self.bytes.place(),
                 reason,
@@ -195,58 +110,41 @@ impl<'s> StreamReceiver<'s> {
         }
     }
 
-    fn take(&mut self, piece: &[u8]) -> Result<(), StreamReason> {
-        if self.ended {
-            return Err(StreamReason::Ended);
-        }
-        self.ended = true;
-        self.bytes.push(piece)?;
-        take_header(
-            self.alloc,
-            self.limits.header,
-            &self.expected,
-            &mut self.bytes,
-        )?;
-        if self.bytes.parts() > 0 {
-            take_sections(
-                self.alloc,
-                self.limits.section,
-                &mut self.receiver,
-                &mut self.bytes,
-            )?;
-        }
-        self.ended = false;
-        Ok(())
-    }
-
     /// The bytes that are checked and were not released: the header and whole sections. After an error
     /// they are those before its place.
-    pub fn checked(&self) -> &[u8] {
+    pub fn checked(&self) -> &[u8]
+        ensures { result.now ≡ drop self.now.released self.now.checked }
+    {
         self.bytes.checked()
     }
 
     /// Releases the bytes that are checked.
-    pub fn release(&mut self) {
+    pub fn release(&mut self)
+        ensures { self.new ≡ record self.old { released = length self.old.checked } }
+    {
         self.bytes.release();
     }
 
     /// How many sections are checked.
-    pub fn sections(&self) -> u64 {
+    pub fn sections(&self) -> u64
+        ensures { result ≡ self.now.sections }
+    {
         self.bytes.parts().saturating_sub(1)
     }
 
     /// Ends the stream, of which nothing more is checked then. The sections are then the own archive of
     /// the job, and no block is missing that may not be.
-    pub fn finish(self) -> Result<Counts, StreamFault> {
+    pub fn finish(self) -> Result<Counts, StreamFault>
+        ensures going { OnOk result (self.entry.ended ≡ false) }
+        ensures whole { IfOk result (IsWholeStream self.entry.asked (taken_of self.entry)) }
+        ensures fault { IfErr result (λ e. IsCutAt self.entry e.place e.reason) }
+    {
         let StreamReceiver {
-            alloc,
-            limits: _,
-            expected,
+            request,
             receiver,
             bytes,
             ended,
         } = self;
-        drop(expected);
         let place = bytes.place();
         if ended {
             return Err(StreamFault {
@@ -254,7 +152,7 @@ impl<'s> StreamReceiver<'s> {
                 reason: StreamReason::Ended,
             });
         }
-        match end_of(alloc, receiver, &bytes) {
+        match end_stream(&request, receiver, &bytes) {
             Ok(counts) => Ok(counts),
             Err(reason) => Err(StreamFault {
                 place,

@@ -1,7 +1,11 @@
 //! The bytes of a stream that wait.
 
+ghost use Rattle.std.specs.Prelude.{◌≡◌, ◌<◌, ◌≤◌, [], ◌++◌, length, drop, OnOk, OnErr};
+ghost use Rattle.ix_own_archive.specs.Taking.{bytes_of, with_piece, advanced, all_released};
+
 use ix_check::History;
 use std::alloc::{AllocError, Global};
+use std::marker::Model;
 
 // No more bytes are counted, and no file has more.
 const MOST: u64 = i64::MAX as u64;
@@ -18,7 +22,7 @@ pub(crate) struct StreamBytes {
     // How many times some were checked.
     parts: u64,
     // Those that were released, for contracts only.
-    history: History<u8>,
+    gone: History<u8>,
 }
 
 // Written by hand: a derived drop is inlined in each function that drops one, at each of its exits.
@@ -29,15 +33,29 @@ impl Drop for StreamBytes {
             checked: _,
             released: _,
             parts: _,
-            history,
+            gone,
         } = self;
         drop(kept);
-        drop(history);
+        drop(gone);
     }
 }
 
+impl Model for StreamBytes {
+    ghost use Rattle.ix_own_archive.specs.Taking.{TakenBytes, coded_bytes, bytes_of, AreCounted};
+
+    ghost Value = { TakenBytes };
+
+    ghost coded = { coded_bytes };
+
+    ghost view = { λ s. bytes_of s.gone s.kept.items s.checked s.parts };
+
+    ghost invariant = { λ s. AreCounted s.gone s.kept.items s.checked s.released s.parts };
+}
+
 // Records bytes for contracts. The loop does nothing, and the optimizer removes it.
-fn record_bytes(history: &mut History<u8>, bytes: &[u8]) {
+fn record_bytes(history: &mut History<u8>, bytes: &[u8])
+    ensures { history.new ≡ history.old ++ bytes.now }
+{
     for byte in bytes {
         history.push(byte);
     }
@@ -45,18 +63,23 @@ fn record_bytes(history: &mut History<u8>, bytes: &[u8]) {
 
 impl StreamBytes {
     // Creates the bytes of a stream of which none was taken.
-    pub(crate) fn new(alloc: Global) -> StreamBytes {
+    pub(crate) fn new(alloc: Global) -> StreamBytes
+        ensures { result ≡ bytes_of [] [] 0 0 }
+    {
         StreamBytes {
             kept: Vec::new(alloc),
             checked: 0,
             released: 0,
             parts: 0,
-            history: History::new(),
+            gone: History::new(),
         }
     }
 
     // Takes the next bytes. Fails if memory runs out, or at 2^63 bytes.
-    pub(crate) fn push(&mut self, piece: &[u8]) -> Result<(), AllocError> {
+    pub(crate) fn push(&mut self, piece: &[u8]) -> Result<(), AllocError>
+        ensures taken { OnOk result (self.new ≡ with_piece piece.now self.old) }
+        ensures same { OnErr result (self.new ≡ self.old) }
+    {
         let count = self.released + self.kept.len() as u64;
         if piece.len() as u64 > MOST - count {
             return Err(AllocError);
@@ -65,39 +88,51 @@ impl StreamBytes {
     }
 
     // Returns those that are not checked.
-    pub(crate) fn rest(&self) -> &[u8] {
+    pub(crate) fn rest(&self) -> &[u8]
+        ensures { result.now ≡ self.now.rest }
+    {
         &self.kept[self.checked..]
     }
 
     // Returns those that are checked and were not released.
-    pub(crate) fn checked(&self) -> &[u8] {
+    pub(crate) fn checked(&self) -> &[u8]
+        ensures { result.now ≡ drop self.now.released self.now.checked }
+    {
         &self.kept[..self.checked]
     }
 
     // How many are checked.
-    pub(crate) fn place(&self) -> u64 {
+    pub(crate) fn place(&self) -> u64
+        ensures { result ≡ length self.now.checked }
+    {
         self.released + self.checked as u64
     }
 
     // How many times some were checked.
-    pub(crate) fn parts(&self) -> u64 {
+    pub(crate) fn parts(&self) -> u64
+        ensures { result ≡ self.now.parts }
+    {
         self.parts
     }
 
     // Marks so many of the rest as checked, one at least.
-    pub(crate) fn advance(&mut self, length: usize) {
-        self.checked += length;
+    pub(crate) fn advance(&mut self, count: usize)
+        requires some { 0 < count }
+        requires within { count ≤ length self.old.rest }
+        ensures { self.new ≡ advanced count self.old }
+    {
+        self.checked += count;
         self.parts += 1;
     }
 
     // Releases those that are checked.
-    pub(crate) fn release(&mut self) {
-        if self.checked == 0 {
-            return;
-        }
-        record_bytes(&mut self.history, &self.kept[..self.checked]);
+    pub(crate) fn release(&mut self)
+        ensures { self.new ≡ all_released self.old }
+    {
+        record_bytes(&mut self.gone, &self.kept[..self.checked]);
         self.kept.rotate_left(self.checked);
-        self.kept.truncate(self.kept.len() - self.checked);
+        let left = self.kept.len() - self.checked;
+        self.kept.truncate(left);
         self.released += self.checked as u64;
         self.checked = 0;
     }

@@ -1,7 +1,6 @@
 //! Why a stream is not a job's own archive.
 
 use crate::fault::ArchiveReason;
-use std::alloc::AllocError;
 use std::fmt;
 
 /// What is wrong with a stream.
@@ -17,12 +16,6 @@ pub enum StreamReason {
     Ended,
 }
 
-impl From<AllocError> for StreamReason {
-    fn from(_error: AllocError) -> StreamReason {
-        StreamReason::Archive(ArchiveReason::Memory)
-    }
-}
-
 /// What is wrong with a stream, and where.
 #[derive(Debug, Drop)]
 pub struct StreamFault {
@@ -33,6 +26,11 @@ pub struct StreamFault {
 }
 
 impl fmt::Display for StreamReason {
+    ghost use Rattle.std.specs.Prelude.{Some};
+    ghost use Rattle.ix_own_archive.specs.FaultWords.{stream_words};
+
+    ghost output = { λ r. Some (stream_words r) };
+
     fn fmt<W: fmt::Write>(&self, f: &mut fmt::Formatter<W>) -> fmt::Result {
         match self {
             StreamReason::Archive(reason) => write!(f, "{reason}"),
@@ -45,6 +43,11 @@ impl fmt::Display for StreamReason {
 
 /// Writes the offset and what is wrong there.
 impl fmt::Display for StreamFault {
+    ghost use Rattle.std.specs.Prelude.{Some};
+    ghost use Rattle.ix_own_archive.specs.FaultWords.{stream_fault_words};
+
+    ghost output = { λ e. Some (stream_fault_words e) };
+
     fn fmt<W: fmt::Write>(&self, f: &mut fmt::Formatter<W>) -> fmt::Result {
         let (place, reason) = (self.place, &self.reason);
         write!(f, "{place}: {reason}")

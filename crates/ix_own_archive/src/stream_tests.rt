@@ -65,10 +65,10 @@ fn found(
         Ok(()) => stream.finish(),
         Err(fault) => Err(fault),
     };
-    let told = words(alloc, outcome)?;
+    let line = words(alloc, outcome)?;
     let whole = bytes.as_slice().starts_with(checked.as_slice());
-    let (count, told) = (checked.len(), told.as_str());
-    Ok(format!(in alloc; "{told}, {count} bytes, {sections} sections, {whole}")?)
+    let (count, line) = (checked.len(), line.as_str());
+    Ok(format!(in alloc; "{line}, {count} bytes, {sections} sections, {whole}")?)
 }
 
 // The same in pieces of 1, of 7 and of all bytes, if they agree.

@@ -1,0 +1,6 @@
+-- What is asked of a stream, as contracts see it.
+use Rattle.ix_own_archive.specs.declared.stream_request.StreamRequest.{StreamRequest}
+use Rattle.ix_own_archive.specs.Streaming.{Asked}
+
+abbrev pub asked_of : StreamRequest → Asked
+asked_of r = record { job = r.job.now; allowed = r.allowed; header = r.header; limits = r.limits }
