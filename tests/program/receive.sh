@@ -432,14 +432,14 @@ wrong_asked() {
   expect_folder out
 }
 wrong_asked 'error: the following required arguments were not provided:'
-wrong_asked '--root: base58, expected a CIDv1 in base32' --root Qm1
+wrong_asked '--root: base58 of a CIDv0, which names UnixFS, expected a CIDv1 in base32 beginning with b' --root Qm1
 wrong_asked 'selector: no JSON at 0' --root "$one_text" --selector ''
 wrong_asked "error: invalid value 'x' for '--scope <SCOPE>': it is all, block or entity" --root "$one_text" --scope x
 wrong_asked "error: the argument '--selector <JSON>' cannot be used with '--scope <SCOPE>'" --root "$one_text" --selector "$just_root" --scope all
 wrong_asked "error: invalid value 'x' for '--allow-missing <WHICH>': 'x' is none of raw, dag-cbor and all" --root "$one_text" --allow-missing x
 wrong_asked "error: invalid value '0' for '--max-block <SIZE>': SIZE is a number of bytes from 1 to 18446744073709551615, or of K, M, G or T, as in 4G or 4GiB" --root "$one_text" --max-block 0
 wrong_asked "error: invalid value for '--root <ROOT>': roots have one path in common: give one \`receive\` per path" --root "$one_text/0,$abc_text/1"
-wrong_asked "--root and --selector: the path, of which each number counts twice, and the selector at its end nest more than 128 deep together" --root "$one_text/$(printf 'a/%.0s' $(seq 122))1/2" --selector "$just_root"
+wrong_asked "--root and --selector: the path, of which each number counts twice, and the selector at its end nest more than 128 deep together" --root "$one_text/$(printf 'a/%.0s' $(seq 120))1/2/3/4" --selector "$just_root"
 wrong_asked "--root: the selector of the path has over 1048576 bytes, since each of its 20 numbers, a key or an index, doubles it" --root "$one_text$(printf '/%s' $(seq 20))"
 run receive --root "$one_text" input.car
 expect_text 'exit status' 2 "$status"

@@ -3,7 +3,6 @@
 use crate::path_watch::PathWatch;
 use crate::spec::{LIMIT, ROOT, SPEC};
 use clap::ArgMatches;
-use ix_cli_io::Failure;
 use ix_job_errors::job_fault_words;
 use ix_job_line::{JobWords, SelectorWord, jobs_of_words, selector_hex};
 use ix_load::{NoJobs, RootPaths, Roots, SCOPE, Scope, Unresolved, no_jobs};
@@ -30,22 +29,16 @@ pub(crate) struct Asked {
 
 /// Returns what the arguments ask for, or why they are those of no job.
 pub(crate) fn asked_for<'a>(alloc: Global, words: &ArgMatches<'a>) -> Result<Asked, NoJobs> {
-    let scope = match Scope::given(alloc, &SPEC, SCOPE.optional_text(words)) {
-        Ok(scope) => scope,
-        Err(failure) => return Err(NoJobs::Failure(failure)),
-    };
+    let scope = Scope::given(alloc, &SPEC, SCOPE.optional_text(words))?;
     let selector = scope.given_selector(words);
     let limit = LIMIT.optional_text(words).unwrap_or(MOST_VISITS);
-    let option = "--root <ROOT>";
-    let roots = match Roots::given(alloc, &SPEC, option, ROOT.optional_text(words), &[], scope) {
-        Ok(roots) => roots,
-        Err(failure) => return Err(NoJobs::Failure(failure)),
-    };
+    let (option, roots) = ("--root <ROOT>", ROOT.optional_text(words));
+    let roots = Roots::given(alloc, &SPEC, option, roots, &[], scope)?;
     let text = roots.text(alloc)?;
+    // The selector is checked first, with the roots alone.
     let job = job_of(alloc, text.as_str(), limit, &selector)?;
     match roots {
         Roots::Paths(paths) if paths.leads_on() => {
-            drop(job);
             asked_along(alloc, paths, text.as_str(), limit, &selector)
         }
         _ => Ok(Asked {
