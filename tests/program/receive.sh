@@ -440,7 +440,7 @@ wrong_asked "error: invalid value 'x' for '--allow-missing <WHICH>': 'x' is none
 wrong_asked "error: invalid value '0' for '--max-block <SIZE>': SIZE is a number of bytes from 1 to 18446744073709551615, or of K, M, G or T, as in 4G or 4GiB" --root "$one_text" --max-block 0
 wrong_asked "error: invalid value for '--root <ROOT>': roots have one path in common: give one \`receive\` per path" --root "$one_text/0,$abc_text/1"
 wrong_asked "--root and --selector: the path, of which each number counts twice, and the selector at its end nest more than 128 deep together" --root "$one_text/$(printf 'a/%.0s' $(seq 120))1/2/3/4" --selector "$just_root"
-wrong_asked "--root: the selector of the path has over 1048576 bytes, since each of its 20 numbers, a key or an index, doubles it" --root "$one_text$(printf '/%s' $(seq 20))"
+wrong_asked "--root: the selector of the path has over 131072 bytes, since each of its 20 numbers, a key or an index, doubles it" --root "$one_text$(printf '/%s' $(seq 20))"
 run receive --root "$one_text" input.car
 expect_text 'exit status' 2 "$status"
 run receive --root "$one_text" --out '' input.car

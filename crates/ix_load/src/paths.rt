@@ -24,7 +24,7 @@ const MOST_KEYS: usize = 20;
 
 // How many bytes the selector along a path that isn't resolved has at most, and about how many a step adds
 // to its segment.
-const MOST_SELECTOR: usize = 1 << 20;
+const MOST_SELECTOR: usize = 128 * 1024;
 
 const STEP_SIZE: usize = 12;
 
