@@ -10,7 +10,7 @@ _ix_export() {
   fi
   for it in "${COMP_WORDS[@]:1:COMP_CWORD-1}"; do
     case $it in
-      get | jobs | job | check-jobs | selector | root | block | show | inspect | verify)
+      get | jobs | job | check-jobs | selector | root | block | show | inspect | verify | receive)
         command=$it
         break
         ;;
@@ -41,7 +41,7 @@ _ix_export() {
       mapfile -t COMPREPLY < <(compgen -W 'all block entity' -- "$word")
       return
       ;;
-    --root | --segment | --path | --selector | --selector-hex | --limit | --max-limit | --cid | --hex | --part | --max-input) return ;;
+    --root | --segment | --path | --selector | --selector-hex | --limit | --max-limit | --cid | --hex | --part | --max-input | --max-block) return ;;
   esac
   case $command in
     get) it='--blocks --root --segment --scope --selector --selector-hex --limit --once --every-arrival --without --without-list --allow-missing --out -o --walkers --verifiers --max-input --carv2 --prefer-sound --complete --partial --sync --no-sync --paths --json --progress --quiet -q --verbose -v --help -h' ;;
@@ -54,10 +54,11 @@ _ix_export() {
     show) it='--blocks --pretty --max-input --carv2 --prefer-sound --progress --quiet -q --help -h' ;;
     inspect) it='--list --cids --max-input --carv2 --json --quiet -q --help -h' ;;
     verify) it='--with --prefer-sound --allow-missing --selector --selector-hex --path --scope --exact --blocks-only --all --verifiers --max-input --carv2 --json --progress --quiet -q --help -h' ;;
-    *) it='get jobs job check-jobs selector root block show inspect verify --help -h --version -V' ;;
+    receive) it='--root --scope --selector --selector-hex --limit --allow-missing --any-header --out -o --max-block --sync --no-sync --json --progress --quiet -q --verbose -v --help -h' ;;
+    *) it='get jobs job check-jobs selector root block show inspect verify receive --help -h --version -V' ;;
   esac
   case $command in
-    check-jobs | inspect | verify)
+    check-jobs | inspect | verify | receive)
       if [[ $word != -* ]]; then
         mapfile -t COMPREPLY < <(compgen -f -- "$word")
         compopt -o filenames 2>/dev/null

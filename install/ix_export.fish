@@ -12,6 +12,7 @@ complete -c ix_export -n __fish_use_subcommand -a block -d 'Print the bytes of o
 complete -c ix_export -n __fish_use_subcommand -a show -d 'Print one block as DAG-JSON'
 complete -c ix_export -n __fish_use_subcommand -a inspect -d 'Describe a CARv1 file'
 complete -c ix_export -n __fish_use_subcommand -a verify -d 'Check CARv1 files'
+complete -c ix_export -n __fish_use_subcommand -a receive -d 'Check an archive against what was asked for, as it arrives'
 
 complete -c ix_export -n '__fish_seen_subcommand_from get' -s h -l help -d 'Print the help'
 complete -c ix_export -n '__fish_seen_subcommand_from get' -l blocks -r -F -d 'CARv1 file of blocks; several add up'
@@ -141,3 +142,21 @@ complete -c ix_export -n '__fish_seen_subcommand_from verify' -l json -d 'Report
 complete -c ix_export -n '__fish_seen_subcommand_from verify' -l progress -d 'Show progress on standard error'
 complete -c ix_export -n '__fish_seen_subcommand_from verify' -s q -l quiet -d 'No progress, and no line of a file that is sound'
 complete -c ix_export -n '__fish_seen_subcommand_from verify' -F
+
+complete -c ix_export -n '__fish_seen_subcommand_from receive' -s h -l help -d 'Print the help'
+complete -c ix_export -n '__fish_seen_subcommand_from receive' -l root -x -d 'Comma-separated roots, each a CID or CID/PATH'
+complete -c ix_export -n '__fish_seen_subcommand_from receive' -l scope -x -a 'all block entity' -d 'What is selected where the path ends'
+complete -c ix_export -n '__fish_seen_subcommand_from receive' -l selector -x -d 'IPLD selector as JSON'
+complete -c ix_export -n '__fish_seen_subcommand_from receive' -l selector-hex -x -d 'IPLD selector as DAG-CBOR in hex'
+complete -c ix_export -n '__fish_seen_subcommand_from receive' -l limit -x -d 'Link budget, 1 to 4294967295'
+complete -c ix_export -n '__fish_seen_subcommand_from receive' -l allow-missing -x -a 'raw dag-cbor all' -d 'Blocks that may be missing: raw, dag-cbor or all'
+complete -c ix_export -n '__fish_seen_subcommand_from receive' -l any-header -d 'Accept a header with other roots'
+complete -c ix_export -n '__fish_seen_subcommand_from receive' -s o -l out -r -F -d 'Archive to write'
+complete -c ix_export -n '__fish_seen_subcommand_from receive' -l max-block -x -d 'Greatest size of a section, such as 16M'
+complete -c ix_export -n '__fish_seen_subcommand_from receive' -l sync -d 'Sync FILE to disk before it is renamed'
+complete -c ix_export -n '__fish_seen_subcommand_from receive' -l no-sync -d 'Rename FILE without waiting for the disk'
+complete -c ix_export -n '__fish_seen_subcommand_from receive' -l json -d 'Report as JSON, one object per line'
+complete -c ix_export -n '__fish_seen_subcommand_from receive' -l progress -d 'Show progress on standard error'
+complete -c ix_export -n '__fish_seen_subcommand_from receive' -s q -l quiet -d 'No progress, and no report if the status is 0'
+complete -c ix_export -n '__fish_seen_subcommand_from receive' -s v -l verbose -d 'Accepted: an error always has its cause'
+complete -c ix_export -n '__fish_seen_subcommand_from receive' -F

@@ -1,7 +1,7 @@
 #!/usr/bin/env python3
 """Runs the built program while calls on its files fail, while it is killed, and ten at once: no file is ever other than whole.
 
-Each call on an output fails once in turn, by `get` and by `jobs`, and each is once the last before the program is killed. A
+Each call on an output fails once in turn, by `get`, `receive` and `jobs`, and each is once the last before the program is killed. A
 file under a final name then has its old bytes or those of the whole archive, and a run that is rejected leaves no part that it
 made. Ten runs at once write the same outputs, each call late by chance. Then: a large file that several threads read and that
 can't be read, or becomes shorter; errors of fsync, file systems without locks, and
@@ -24,6 +24,9 @@ TOP = pathlib.Path(__file__).resolve().parent.parent
 ROOT = "bafyreigiavswv62tcfji62na4ecatawlzg33sy6uezl5lj3g56mxdhbnmq"
 NAMES = ("album", "first-three", "front", "parts", "whole")
 OLD = b"the archive of before"
+THREADS = ("--walkers", "1", "--verifiers", "1")
+# The commands that write one archive.
+OF_ONE = ("get", "receive")
 IO, NO_SPACE, NOT_PERMITTED = 5, 28, 1
 NO_LOCKS = (37, 38, 95)
 CALLS = ("open", "write", "flock", "fsync", "fchmod", "rename", "unlink")
@@ -45,13 +48,16 @@ class Runner:
     def words(self, command):
         blocks = ["--blocks", str(TOP / "examples/library.car")]
         name, *options = command.split()
+        if name == "receive":
+            stream = ["--root", ROOT, "--allow-missing", "raw", str(TOP / "examples/expected/whole.car")]
+            return ["receive", *stream, "--out", str(self.out / "whole.car"), *options]
         if name == "get":
-            return ["get", *blocks, "--root", ROOT, "--out", str(self.out / "whole.car"), *options]
+            return ["get", *blocks, "--root", ROOT, "--out", str(self.out / "whole.car"), *THREADS, *options]
         jobs = ["--jobs", str(TOP / "examples/library.jobs"), "--out", str(self.out)]
-        return ["jobs", *blocks, *jobs, *options]
+        return ["jobs", *blocks, *jobs, *THREADS, *options]
 
     def names(self, command):
-        return ("whole",) if command.startswith("get") else NAMES
+        return ("whole",) if command.split()[0] in OF_ONE else NAMES
 
     def clear(self, command, stale):
         """An output folder with the archives of before, and with parts that a killed run left where that is wanted."""
@@ -65,7 +71,7 @@ class Runner:
     def start(self, command, **shim):
         environment = {"LD_PRELOAD": str(self.library), **{key: str(value) for key, value in shim.items()}}
         self.runs += 1
-        words = [self.program, *self.words(command), "--walkers", "1", "--verifiers", "1"]
+        words = [self.program, *self.words(command)]
         return subprocess.Popen(words, env=environment, stdout=subprocess.PIPE, stderr=subprocess.PIPE)
 
     def run(self, command, **shim):
@@ -134,7 +140,7 @@ def large_files(runner):
 
 def failing_calls(runner):
     """Each call fails once, with stale parts and without."""
-    for command in ("get", "jobs", "jobs --sync"):
+    for command in ("get", "receive", "jobs", "jobs --sync"):
         counts = runner.counts(command)
         for name in CALLS:
             for number in range(1, counts[name] + 1):
@@ -142,20 +148,20 @@ def failing_calls(runner):
                     what = f"{command}, {name} number {number} fails, stale {stale}"
                     runner.clear(command, stale)
                     status, output, errors = runner.run(command, FAIL=f"{name}:{number}:{IO}")
-                    if status not in (2, 3, 4):
+                    if status not in (0, 2, 3, 4):
                         raise Wrong(f"{what}: status {status}: {errors}")
                     new = runner.expect_whole(command, what)
                     # A write that fails ends its job alone; so does a sync.
-                    if status == 2 and command != "get" and len(errors.splitlines()) != 1:
+                    if status == 2 and command not in OF_ONE and len(errors.splitlines()) != 1:
                         raise Wrong(f"{what}: more than one line: {errors}")
                     if status == 2 and not output and not new and not stale and name != "unlink" and runner.parts():
-                        if command != "get" or name != "rename":
+                        if command not in OF_ONE or name != "rename":
                             raise Wrong(f"{what}: left {runner.parts()}")
 
 
 def killed(runner):
     """The program is killed before each of its calls, and the next run is right."""
-    for command in ("get", "jobs", "jobs --sync"):
+    for command in ("get", "receive", "jobs", "jobs --sync"):
         total = sum(runner.counts(command, False).values())
         for number in range(1, total + 1):
             what = f"{command}, killed at call {number}"
@@ -165,7 +171,7 @@ def killed(runner):
                 raise Wrong(f"{what}: status {status}: {errors}")
             runner.expect_whole(command, what)
             status, _, errors = runner.run(command)
-            if status not in (3, 4) or runner.expect_whole(command, what) != len(runner.names(command)):
+            if status not in (0, 3, 4) or runner.expect_whole(command, what) != len(runner.names(command)):
                 raise Wrong(f"{what}: the next run has status {status}: {errors}")
             if runner.parts():
                 raise Wrong(f"{what}: the next run left {runner.parts()}")
@@ -204,6 +210,10 @@ def syncs(runner):
         raise Wrong(f"get, fsync fails: {errors}")
     if not lines[2].startswith("get write "):
         raise Wrong(f"get, fsync fails: the report is {lines[2]}")
+    runner.clear("receive", False)
+    status, _, errors = runner.run("receive", FAIL=f"fsync:1:{NO_SPACE}")
+    if (status, errors) != (4, f"cannot write {path}: No space left on device (os error 28)\n") or path.read_bytes() != OLD:
+        raise Wrong(f"receive, fsync fails: status {status}: {errors}")
     runner.clear("jobs", False)
     status, output, errors = runner.run("jobs --sync", FAIL=f"fsync:2:{NO_SPACE}")
     ends = {line.split()[0]: line.split()[1] for line in output.splitlines() if line[0] != " "}
@@ -211,7 +221,7 @@ def syncs(runner):
         raise Wrong(f"jobs --sync, fsync fails: status {status}: {output}{errors}")
     if (runner.out / "whole.car").read_bytes() != wanted("whole"):
         raise Wrong("jobs --sync, fsync fails: another job's archive is not whole")
-    for command, calls in (("get", 1), ("jobs", 0), ("jobs --sync", len(NAMES))):
+    for command, calls in (("get", 1), ("receive", 1), ("receive --no-sync", 0), ("jobs", 0), ("jobs --sync", len(NAMES))):
         if runner.counts(command)["fsync"] != calls:
             raise Wrong(f"{command}: {runner.counts(command)['fsync']} calls of fsync")
 

@@ -88,6 +88,12 @@ judge_paths() {
   { echo 'note: out of memory for the paths of skips' && sed 's/^\(  .*\) .*/\1/' paths.wanted; } | cmp -s - stderr || fail 'another report'
 }
 
+# The command `receive`, which accepts the archive.
+judge_receive() {
+  judge_get
+  [ "$status" != 0 ] || cmp -s out/a.car "$wanted" || fail 'the archive has no name'
+}
+
 # The same to standard output.
 judge_stream() {
   case $status in
@@ -95,7 +101,9 @@ judge_stream() {
     *) fail 'another status' ;;
   esac
   begins stdout "$wanted"
-  [ "$status" != 3 ] || cmp -s stdout "$wanted" || fail 'the archive is not whole'
+  case $status in
+    0 | 3) cmp -s stdout "$wanted" || fail 'the archive is not whole' ;;
+  esac
 }
 
 judge_jobs() {
@@ -192,7 +200,17 @@ total jobs=1 done=1 skips=2
 END
 each_request judge_paths "${words[@]}" --paths --out out/a.car
 
-# The same without the album, which the receiver has, and without that and a listed block: the root's is in both.
+# The command `receive` of that archive, also along a path.
+words=(receive --root bafyreigiavswv62tcfji62na4ecatawlzg33sy6uezl5lj3g56mxdhbnmq --allow-missing raw "$wanted")
+each_request judge_receive "${words[@]}" --out out/a.car
+each_request judge_stream "${words[@]}" --out - --json
+wanted=$scratch/path.car
+"$program" get --blocks "$top/examples/library.car" --root bafyreigiavswv62tcfji62na4ecatawlzg33sy6uezl5lj3g56mxdhbnmq/album/photos/0 --out "$wanted" 2>stderr
+each_request judge_receive receive --root bafyreigiavswv62tcfji62na4ecatawlzg33sy6uezl5lj3g56mxdhbnmq/album/photos/0 "$wanted" --out out/a.car
+wanted=$top/examples/expected/whole.car
+words=(get --blocks "$top/examples/library.car" --root bafyreigiavswv62tcfji62na4ecatawlzg33sy6uezl5lj3g56mxdhbnmq --walkers 1 --verifiers 1)
+
+# The command `get` without the album, which the receiver has, and without that and a listed block: the root's is in both.
 mkdir without
 head -c 59 "$wanted" >without/album.car
 tail -c +596 "$wanted" >>without/album.car

@@ -17,7 +17,7 @@ trap 'echo "tests/program.sh: $title: the command failed: $BASH_COMMAND" >&2' ER
 
 source "$top/tests/program/cases.sh"
 source "$top/tests/program/blocks.sh"
-for part in examples root jobs hashes faults words streams two_runs selectors progress parts many check_jobs input complete once get several prefer carv2 short quiet inspect verify asked with without missing lists agree block paths skips json; do
+for part in examples root jobs hashes faults words streams two_runs selectors progress parts many check_jobs input complete once get several prefer carv2 short quiet inspect verify asked receive with without missing lists agree block paths skips json; do
   source "$top/tests/program/$part.sh"
 done
 

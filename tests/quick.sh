@@ -1,7 +1,7 @@
 #!/usr/bin/env bash
 # Tests the program as ./ix_export finds it, with no proof: how it is found, its words, its cases on files with the recipes of
 # docs/SELECTORS.md, random jobs at every arrival and with --once, differences from random bases, blocks as DAG-JSON, paths
-# through random graphs, the paths of skips, an AT Protocol repository, and hostile input. It takes about four minutes. Ends with status 1 at the
+# through random graphs, the paths of skips, streams that are received, an AT Protocol repository, and hostile input. It takes about four minutes. Ends with status 1 at the
 # first that is wrong.
 set -euo pipefail
 cd "$(dirname "${BASH_SOURCE[0]}")/.."
@@ -13,5 +13,6 @@ tests/differences.py
 tests/show.py
 tests/paths.py
 tests/skips.py
+tests/receive.py
 tests/at_repository.py
 tests/hostile.py

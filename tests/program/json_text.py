@@ -27,6 +27,14 @@ def of_job(it):
         yield "  {visit} {verdict} {cid}".format(**skip)
 
 
+def of_rejected(it):
+    yield "{job} {end} sections={sections} bytes={bytes}".format(**it)
+    yield from (f"  {key} {it[key]}" for key in ("file", "part") if key in it)
+    if "fault" in it:
+        cids = (f" {key} {it['fault'][key]}" for key in ("cid", "expected") if key in it["fault"])
+        yield "  fault {place} {reason}".format(**it["fault"]) + "".join(cids)
+
+
 def of_file(it):
     assert it["outcome"] in ("sound", "incomplete", "inexact", "unsupported", "broken"), it["outcome"]
     line = "{file} {outcome} sections={sections} bytes={bytes}".format(**it)
@@ -64,8 +72,10 @@ def of_fault(it):
 
 def lines(it):
     match it:
-        case {"job": _}:
+        case {"job": _, "visits": _}:
             return of_job(it)
+        case {"job": "receive"}:
+            return of_rejected(it)
         case {"total": total}:
             return ["total jobs={jobs} done={done} skips={skips}".format(**total)]
         case {"outcome": _}:

@@ -36,7 +36,8 @@ pub enum ProgressMode {
 
 /// Shows progress on standard error: how many bytes of blocks were read; then, of a run, how many jobs are
 /// closed, how many visits were delivered, and how many bytes of archives were written; of files that are
-/// verified, how many sections were checked and how many links followed. Only one thread reports it.
+/// verified, how many sections were checked and how many links followed; of a stream, how many bytes came
+/// and how many sections were checked. Only one thread reports it.
 #[derive(Drop)]
 pub struct Progress<'a, R> {
     rt: &'a R,
@@ -133,9 +134,39 @@ impl<'a, R: AllocGlobal + Clock + Eprint> Progress<'a, R> {
         self.end();
     }
 
-    // Shows how much was checked and followed, if it is due.
-    fn show_checked(&self, is_last: bool) {
-        let is_due = match self.mode {
+    /// Sets how many sections of a stream were checked, and counts so many more bytes that came.
+    pub fn set_received(&self, sections: u64, bytes: u64) {
+        self.sections.set(sections);
+        self.loaded.set(self.loaded.get().saturating_add(bytes));
+        self.show_received(false);
+    }
+
+    /// Shows how much of a stream came and was checked, and ends the line that is rewritten.
+    pub fn end_received(&self) {
+        self.show_received(true);
+        self.end();
+    }
+
+    // Shows how much of a stream came and was checked, if it is due.
+    fn show_received(&self, is_last: bool) {
+        if !self.is_shown_now(is_last) {
+            return;
+        }
+        let (sections, bytes) = (self.sections.get(), self.loaded.get());
+        let _ = if self.mode == ProgressMode::Lines {
+            eprintln!(self.rt; "progress: {bytes} bytes received, {sections} sections checked")
+        } else {
+            let received = mebibytes(bytes);
+            eprint!(self.rt;
+                "\r\u{1b}[?7l{received} MiB received, {sections} sections checked\u{1b}[K\u{1b}[?7h"
+            )
+        };
+    }
+
+    // Returns whether something is due to be shown in this mode, and records it. The first line comes a
+    // while after the start.
+    fn is_shown_now(&self, is_last: bool) -> bool {
+        match self.mode {
             ProgressMode::Off => false,
             ProgressMode::Lines => {
                 if self.told.get().is_none() {
@@ -144,8 +175,12 @@ impl<'a, R: AllocGlobal + Clock + Eprint> Progress<'a, R> {
                 self.is_line_due(is_last)
             }
             ProgressMode::Line(_) => self.is_due(is_last),
-        };
-        if !is_due {
+        }
+    }
+
+    // Shows how much was checked and followed, if it is due.
+    fn show_checked(&self, is_last: bool) {
+        if !self.is_shown_now(is_last) {
             return;
         }
         let (sections, links) = (self.sections.get(), self.visits.get());

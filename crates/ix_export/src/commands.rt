@@ -6,6 +6,7 @@ use ix_export_commands::{get, jobs, root};
 use ix_file_commands::{inspect, verify};
 use ix_job_commands::{check_jobs, job, selector};
 use ix_options::command_of;
+use ix_receive_command::receive;
 use std::alloc::{AllocError, Global};
 
 // The program's version, and the logic of the toolchain in which it is proved.
@@ -49,6 +50,7 @@ fn push_commands<'a>(alloc: Global, commands: &mut Vec<Command<'a>>) -> Result<(
         &show::SPEC,
         &inspect::SPEC,
         &verify::SPEC,
+        &receive::SPEC,
     ];
     for spec in table {
         push_command(commands, command_of(alloc, spec))?;

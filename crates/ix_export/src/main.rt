@@ -23,6 +23,7 @@ use ix_export_commands::{get, jobs, root};
 use ix_file_commands::{inspect, verify};
 use ix_job_commands::{check_jobs, job, selector};
 use ix_options::{Host, Terminals, VERBOSE};
+use ix_receive_command::receive;
 use ix_run::RunFault;
 use std::io::IsTerminal;
 use std::process::ExitCode;
@@ -57,6 +58,7 @@ fn run_command<R: Host>(rt: &R, words: &[String], terminals: Terminals) -> u8 {
             Some(("show", words)) => (show::run(rt, words, terminals), Causes::Beside),
             Some(("inspect", words)) => (inspect::run(rt, words), Causes::Beside),
             Some(("verify", words)) => (verify::run(rt, words, terminals.errors), Causes::Beside),
+            Some(("receive", words)) => (receive::run(rt, words, terminals), Causes::Beside),
             Some((_, words)) => (root::run(rt, words), causes_of(words)),
             // The command line requires a command.
             None => (Ok(REFUSED), Causes::Hidden),

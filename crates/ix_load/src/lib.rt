@@ -15,6 +15,7 @@ mod export;
 mod known;
 mod paths;
 mod roots;
+mod segments;
 mod threads;
 
 pub use blocks::{BlockFiles, LoadedBlocks};

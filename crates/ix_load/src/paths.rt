@@ -1,6 +1,7 @@
 //! Paths after the CIDs of roots: how they are given, where they lead, and the selector to there.
 
 use crate::roots::MATCHER;
+use crate::segments::selector_by_segments;
 use clap::error::ErrorKind;
 use hex::FromHexError;
 use ix_cbor::{CborKind, Front, Tree, decode, read_front, read_key, skip_item};
@@ -8,7 +9,9 @@ use ix_cid::Cid;
 use ix_cli_io::Failure;
 use ix_job_line::SelectorWord;
 use ix_options::CommandSpec;
-use ix_path::{NodeBytes, Obstacle, PathError, PathNode, PathStep, Resolution, RootPath, resolve};
+use ix_path::{
+    NodeBytes, Obstacle, PathError, PathNode, PathStep, Resolution, RootPath, index_of, resolve,
+};
 use ix_path_selector::{PathEnd, PathSelectorFault, selector_along, steps_along};
 use ix_selector_json::{NotationFault, fault_line};
 use ix_store::Store;
@@ -18,6 +21,12 @@ use std::str;
 
 // How many keys of a map are named at most.
 const MOST_KEYS: usize = 20;
+
+// How many bytes the selector along a path that isn't resolved has at most, and about how many a step adds
+// to its segment.
+const MOST_SELECTOR: usize = 128 * 1024;
+
+const STEP_SIZE: usize = 12;
 
 /// Roots with a path, which is the same for all.
 #[derive(Drop)]
@@ -62,8 +71,11 @@ impl RootPaths {
         }
         let roots = RootPaths { paths };
         if !roots.are_alike() {
-            let why = "roots have one path in common: give one `get` per path";
-            return Err(Failure::from(refused_root(alloc, spec, option, why)?));
+            let why = format!(in alloc;
+                "roots have one path in common: give one `{}` per path",
+                spec.name
+            )?;
+            return Err(Failure::from(refused_root(alloc, spec, option, why.as_str())?));
         }
         Ok(Some(roots))
     }
@@ -113,14 +125,40 @@ impl RootPaths {
         };
         let resolved = self.steps(alloc, store)?;
         let steps = steps_along(alloc, resolved.as_slice(), path.segments.as_slice())?;
-        match selector_along(alloc, steps.as_slice(), path_end(alloc, word, inner)?) {
-            Ok(block) => Ok(hex::encode(alloc, block.as_slice())?),
-            Err(PathSelectorFault::TooDeep) => Err(Unresolved::TooDeep),
-            Err(PathSelectorFault::Memory) => Err(Unresolved::Memory),
-            Err(PathSelectorFault::End(fault)) => {
-                Err(refused_selector(alloc, &NotationFault::Selector(fault))?)
-            }
+        let end = path_end(alloc, word, inner)?;
+        hex_of(alloc, selector_along(alloc, steps.as_slice(), end))
+    }
+
+    /// Returns the selector, in hex, that goes from each root along its path before its blocks are known,
+    /// and there is that of a word, which has this hex. A segment that is a number is followed as a key and
+    /// as an index, so it doubles the selector, which may not become too large.
+    pub fn unresolved_hex(
+        &self,
+        alloc: Global,
+        word: &SelectorWord<'_>,
+        inner: &str,
+    ) -> Result<String, Unresolved> {
+        let Some(path) = self.paths.first() else {
+            return Ok(String::from_str(alloc, inner)?);
+        };
+        let segments = path.segments.as_slice();
+        let size = size_by_segments(segments, inner.len() / 2);
+        if size > MOST_SELECTOR {
+            let count = segments
+                .iter()
+                .filter(|segment| index_of(segment.as_slice()).is_some())
+                .count();
+            return Err(Unresolved::Line(format!(in alloc;
+                "the selector of the path has over {MOST_SELECTOR} bytes, since each of its {count} numbers, a key or an index, doubles it"
+            )?));
         }
+        let end = path_end(alloc, word, inner)?;
+        hex_of(alloc, selector_by_segments(alloc, segments, end))
+    }
+
+    /// Returns the roots with their paths.
+    pub fn into_paths(self) -> Vec<RootPath> {
+        self.paths
     }
 
     // Returns the steps from each root to where its path leads in the store, which are the same for all.
@@ -169,6 +207,30 @@ pub fn path_of(
         return Err(Failure::from(refused_root(alloc, spec, option, why.as_str())?));
     }
     Ok(path)
+}
+
+// Returns about how many bytes the selector along segments has, if the one at their end has so many.
+fn size_by_segments(segments: &[Vec<u8>], end: usize) -> usize {
+    let mut size = end;
+    for segment in segments.iter().rev() {
+        size = size.saturating_add(segment.len()).saturating_add(STEP_SIZE);
+        if index_of(segment.as_slice()).is_some() {
+            size = size.saturating_mul(2);
+        }
+    }
+    size
+}
+
+// Returns a selector in hex, or why there is none.
+fn hex_of(alloc: Global, made: Result<Vec<u8>, PathSelectorFault>) -> Result<String, Unresolved> {
+    match made {
+        Ok(block) => Ok(hex::encode(alloc, block.as_slice())?),
+        Err(PathSelectorFault::TooDeep) => Err(Unresolved::TooDeep),
+        Err(PathSelectorFault::Memory) => Err(Unresolved::Memory),
+        Err(PathSelectorFault::End(fault)) => {
+            Err(refused_selector(alloc, &NotationFault::Selector(fault))?)
+        }
+    }
 }
 
 // Makes the error for a root.

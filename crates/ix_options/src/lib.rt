@@ -32,4 +32,4 @@ pub use options::{
 pub use print::{later_note, print_all, print_answer, print_notes, print_refusal};
 pub use processors::at_most_processors;
 pub use progress::progress_mode;
-pub use size::most_input;
+pub use size::{given_size, most_input};

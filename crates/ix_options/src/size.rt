@@ -1,7 +1,7 @@
 //! Sizes in arguments: bytes, or multiples of 1024 by a unit.
 
 use crate::command::CommandSpec;
-use crate::options::MAX_INPUT;
+use crate::options::{ArgSpec, MAX_INPUT};
 use clap::ArgMatches;
 use clap::error::ErrorKind;
 use ix_cli_io::Failure;
@@ -14,12 +14,23 @@ pub fn most_input(
     words: &ArgMatches<'_>,
     default: u64,
 ) -> Result<u64, Failure> {
-    let Some(text) = MAX_INPUT.optional_text(words) else {
+    given_size(alloc, spec, words, &MAX_INPUT, default)
+}
+
+/// Returns the size that was given for an option of a command, or this one.
+pub fn given_size(
+    alloc: Global,
+    spec: &'static CommandSpec,
+    words: &ArgMatches<'_>,
+    option: &ArgSpec,
+    default: u64,
+) -> Result<u64, Failure> {
+    let Some(text) = option.optional_text(words) else {
         return Ok(default);
     };
     match size_in(text) {
         Some(size) => Ok(size),
-        None => Err(Failure::from(refused_size(alloc, spec, text)?)),
+        None => Err(Failure::from(refused_size(alloc, spec, option.name, text)?)),
     }
 }
 
@@ -52,10 +63,11 @@ fn factor_of(unit: &str) -> Option<u64> {
 fn refused_size(
     alloc: Global,
     spec: &'static CommandSpec,
+    option: &str,
     text: &str,
 ) -> Result<clap::Error, AllocError> {
     let message = format!(in alloc;
-        "invalid value '{text}' for '--max-input <SIZE>': SIZE is a number of bytes from 1 to 18446744073709551615, or of K, M, G or T, as in 4G or 4GiB"
+        "invalid value '{text}' for '--{option} <SIZE>': SIZE is a number of bytes from 1 to 18446744073709551615, or of K, M, G or T, as in 4G or 4GiB"
     )?;
     spec.refusal(alloc, ErrorKind::ValueValidation, message.as_str())
 }

@@ -93,8 +93,8 @@ fn index_below(segment: &[u8], count: u64) -> Option<u64>
     if index < count { Some(index) } else { None }
 }
 
-// Returns the index that a segment is: decimal digits without a leading zero.
-fn index_of(segment: &[u8]) -> Option<u64>
+/// Returns the index that a segment is as a number: decimal digits without a leading zero, below 2^64.
+pub fn index_of(segment: &[u8]) -> Option<u64>
     ensures { SomeIff result ((is_index segment.now ≡ true) × (digits_value 10 segment.now < 2 ^ 64))
         (digits_value 10 segment.now) }
 {

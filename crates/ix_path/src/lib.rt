@@ -27,6 +27,7 @@ mod step;
 #[cfg(test)]
 mod tests;
 
+pub use child::index_of;
 pub use error::PathError;
 pub use node::{NodeBytes, PathNode};
 pub use obstacle::{Kind, Obstacle};

@@ -1,0 +1,97 @@
+//! What is asked for: the job of the arguments, and where the paths of its roots lead.
+
+use crate::path_watch::PathWatch;
+use crate::spec::{LIMIT, ROOT, SPEC};
+use clap::ArgMatches;
+use ix_job_errors::job_fault_words;
+use ix_job_line::{JobWords, SelectorWord, jobs_of_words, selector_hex};
+use ix_load::{NoJobs, RootPaths, Roots, SCOPE, Scope, Unresolved, no_jobs};
+use ix_walk::Job;
+use std::alloc::{AllocError, Global};
+
+// The name of the job in the report.
+const NAME: &str = "receive";
+
+// The limit where none is given.
+const MOST_VISITS: &str = "4294967295";
+
+const TOO_DEEP: &str =
+    "--root and --selector: the path, of which each number counts twice, and the \
+selector at its end nest more than 128 deep together";
+
+/// What is asked for.
+#[derive(Drop)]
+pub(crate) struct Asked {
+    pub job: Job,
+    /// Where the paths of the roots lead, as blocks come.
+    pub paths: PathWatch,
+}
+
+/// Returns what the arguments ask for, or why they are those of no job.
+pub(crate) fn asked_for<'a>(alloc: Global, words: &ArgMatches<'a>) -> Result<Asked, NoJobs> {
+    let scope = Scope::given(alloc, &SPEC, SCOPE.optional_text(words))?;
+    let selector = scope.given_selector(words);
+    let limit = LIMIT.optional_text(words).unwrap_or(MOST_VISITS);
+    let (option, roots) = ("--root <ROOT>", ROOT.optional_text(words));
+    let roots = Roots::given(alloc, &SPEC, option, roots, &[], scope)?;
+    let text = roots.text(alloc)?;
+    // The selector is checked first, with the roots alone.
+    let job = job_of(alloc, text.as_str(), limit, &selector)?;
+    match roots {
+        Roots::Paths(paths) if paths.leads_on() => {
+            asked_along(alloc, paths, text.as_str(), limit, &selector)
+        }
+        _ => Ok(Asked {
+            job,
+            paths: PathWatch::of_no_path(alloc),
+        }),
+    }
+}
+
+// Returns what is asked for along paths, whose selector was read.
+fn asked_along(
+    alloc: Global,
+    paths: RootPaths,
+    roots: &str,
+    limit: &str,
+    selector: &SelectorWord<'_>,
+) -> Result<Asked, NoJobs> {
+    let Ok(inner) = selector_hex(alloc, selector) else {
+        return Err(NoJobs::from(AllocError));
+    };
+    let hex = match paths.unresolved_hex(alloc, selector, inner.trim_end()) {
+        Ok(hex) => hex,
+        Err(Unresolved::TooDeep) => {
+            return Err(NoJobs::Line(String::from_str(alloc, TOO_DEEP)?));
+        }
+        Err(unresolved) => return Err(no_jobs(alloc, unresolved)?),
+    };
+    let job = job_of(alloc, roots, limit, &SelectorWord::Hex(hex.as_str()))?;
+    match PathWatch::new(alloc, paths.into_paths())? {
+        Ok(paths) => Ok(Asked { job, paths }),
+        Err(line) => Err(no_jobs(alloc, Unresolved::Line(line))?),
+    }
+}
+
+// Returns the job of these roots and this selector, or why there is none.
+fn job_of(
+    alloc: Global,
+    roots: &str,
+    limit: &str,
+    selector: &SelectorWord<'_>,
+) -> Result<Job, NoJobs> {
+    let words = JobWords {
+        name: NAME,
+        roots,
+        limit,
+        greatest_limit: u32::MAX,
+        selector: *selector,
+    };
+    match jobs_of_words(alloc, &words, true) {
+        Ok(mut jobs) => match jobs.pop() {
+            Some(job) => Ok(job),
+            None => Err(NoJobs::from(AllocError)),
+        },
+        Err(fault) => Err(NoJobs::Line(job_fault_words(alloc, &fault, &words)?)),
+    }
+}

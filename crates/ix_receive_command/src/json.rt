@@ -1,0 +1,103 @@
+//! What is printed as JSON of a stream that ended.
+
+use crate::rejection::Rejection;
+use crate::stream::{Ended, Outcome};
+use ix_archive::{Counts, End};
+use ix_jobs::JobResult;
+use ix_json_report::{ArchivePlace, end_line, push_job, push_number, push_text, push_total};
+use ix_walk::Job;
+use json::Writer;
+use std::alloc::{AllocError, Global};
+use std::slice;
+
+/// Returns the objects of a stream that was accepted: that of its job and the total.
+pub(crate) fn accepted_objects(
+    alloc: Global,
+    path: &str,
+    is_named: bool,
+    job: &Job,
+    outcome: &JobResult,
+    absent: Option<usize>,
+) -> Result<Vec<u8>, AllocError> {
+    let part = format!(in alloc; "{path}.part")?;
+    let place = if is_named {
+        ArchivePlace::File(path)
+    } else {
+        ArchivePlace::Part(part.as_str())
+    };
+    let text = push_job(alloc, Vec::new(alloc), job, outcome, absent, place)?;
+    push_total(text, slice::from_ref(outcome))
+}
+
+/// Returns the objects of a stream that wasn't accepted: what was written of it, and why it ended.
+pub(crate) fn other_objects(
+    alloc: Global,
+    path: &str,
+    outcome: &Outcome,
+) -> Result<Vec<u8>, AllocError> {
+    let mut out = Writer::new(Vec::new(alloc));
+    out.begin_object()?;
+    push_text(&mut out, "job", "receive")?;
+    push_text(&mut out, "end", end_of(&outcome.ended))?;
+    push_number(&mut out, "sections", outcome.sections)?;
+    push_number(&mut out, "bytes", outcome.bytes)?;
+    push_path(alloc, &mut out, path)?;
+    if let Ended::Rejected(rejection) = &outcome.ended {
+        push_rejection(&mut out, rejection)?;
+    }
+    out.end_object()?;
+    push_total(end_line(out)?, slice::from_ref(&undone(alloc)))
+}
+
+// Returns the word for how a stream ended.
+fn end_of(ended: &Ended) -> &'static str {
+    match ended {
+        Ended::Accepted(_) => "done",
+        Ended::Rejected(_) | Ended::NoCar(_) | Ended::Unreadable(_) => "rejected",
+        Ended::Unwritable(_) => "write",
+        Ended::Memory => "memory",
+    }
+}
+
+// Appends the member for where an archive is that didn't get its name.
+fn push_path(alloc: Global, out: &mut Writer, path: &str) -> Result<(), AllocError> {
+    if path == "-" {
+        return push_text(out, "file", path);
+    }
+    let part = format!(in alloc; "{path}.part")?;
+    push_text(out, "part", part.as_str())
+}
+
+// Appends the member with the first place that was rejected.
+fn push_rejection(out: &mut Writer, rejection: &Rejection) -> Result<(), AllocError> {
+    out.key("fault")?;
+    out.begin_object()?;
+    push_number(out, "place", rejection.place)?;
+    push_text(out, "reason", rejection.reason.as_str())?;
+    push_optional(out, "cid", &rejection.cid)?;
+    push_optional(out, "expected", &rejection.expected)?;
+    out.end_object()
+}
+
+// Appends a member with a text, if there is one.
+fn push_optional(out: &mut Writer, name: &str, text: &Option<String>) -> Result<(), AllocError> {
+    match text {
+        Some(text) => push_text(out, name, text.as_str()),
+        None => Ok(()),
+    }
+}
+
+// Makes the result of a job that isn't done, for the total.
+fn undone(alloc: Global) -> JobResult {
+    JobResult {
+        end: End::Write,
+        counts: Counts {
+            visits: 0,
+            kept: 0,
+            sections: 0,
+            bytes: 0,
+            known: None,
+        },
+        skips: Vec::new(alloc),
+    }
+}

@@ -1,0 +1,225 @@
+//! The command `receive`: an archive as it arrives.
+
+use crate::asked::{Asked, asked_for};
+use crate::path_watch::PathWatch;
+use crate::report::Report;
+pub use crate::spec::SPEC;
+use crate::spec::{ANY_HEADER, FILE, MAX_BLOCK, OUT};
+use crate::stream::{Ended, Incoming, Outcome, Reception, Request};
+use clap::ArgMatches;
+use ix_cid::code::{DAG_CBOR, RAW};
+use ix_cli_io::{Failure, Output, Progress, ProgressMode, REFUSED, STANDARD_INPUT, occupy_std_fds};
+use ix_load::{NoJobs, allowed_missing};
+use ix_options::{
+    Host, JSON, NO_SYNC, QUIET, Terminals, given_size, output_path, print_refusal, progress_mode,
+};
+use ix_own_archive::{AllowMissing, ExpectedHeader};
+use ix_walk::Job;
+use std::alloc::{AllocError, Global};
+use std::fs;
+use std::io::{self, Read, Write};
+
+// The status of a stream that isn't accepted, or whose archive can't be written.
+const NOT_RECEIVED: u8 = 4;
+
+// The greatest length of a section where none is given.
+const MOST_SECTION: u64 = 8 * 1024 * 1024;
+
+/// Runs the command and returns the status. Its first error is reported, checked in this order: arguments,
+/// the beginning of the stream, output, and the stream.
+pub fn run<'a, R: Host>(
+    rt: &R,
+    words: &ArgMatches<'a>,
+    terminals: Terminals,
+) -> Result<u8, Failure> {
+    let command = ReceiveCommand::read(rt.alloc(), words, terminals)?;
+    let asked = match asked_for(rt.alloc(), words) {
+        Ok(asked) => asked,
+        Err(NoJobs::Failure(failure)) => return Err(failure),
+        Err(NoJobs::Line(line)) => return print_refusal(rt, Ok(line)),
+    };
+    if command.input == STANDARD_INPUT {
+        return command.receive(rt, asked, rt.reader());
+    }
+    match fs::open(rt, command.input) {
+        Ok(file) => command.receive(rt, asked, file),
+        Err(error) => Err(Failure::cannot_read(rt.alloc(), command.input, &error)),
+    }
+}
+
+// What the arguments choose besides what is asked for.
+#[derive(Drop)]
+struct ReceiveCommand<'a> {
+    // The path of the stream.
+    input: &'a str,
+    // The path of the archive, or None for standard output.
+    path: Option<&'a str>,
+    // Which blocks may be missing, if that was given.
+    allowed: Option<AllowMissing>,
+    header: ExpectedHeader,
+    // The greatest length of a section.
+    most: usize,
+    is_synced: bool,
+    is_json: bool,
+    is_quiet: bool,
+    progress: ProgressMode,
+}
+
+impl<'a> ReceiveCommand<'a> {
+    // Reads the arguments. An empty path is rejected, and so is an archive that would go to a terminal.
+    fn read(
+        alloc: Global,
+        words: &ArgMatches<'a>,
+        terminals: Terminals,
+    ) -> Result<ReceiveCommand<'a>, Failure> {
+        let path = output_path(alloc, &SPEC, &OUT, words, terminals.output, "archive")?;
+        let most = given_size(alloc, &SPEC, words, &MAX_BLOCK, MOST_SECTION)?;
+        let allowed = match allowed_missing(alloc, &SPEC, words)? {
+            Some(which) => Some(AllowMissing {
+                raw: which.allows(RAW),
+                dag_cbor: which.allows(DAG_CBOR),
+            }),
+            None => None,
+        };
+        Ok(ReceiveCommand {
+            input: FILE.optional_text(words).unwrap_or(STANDARD_INPUT),
+            path,
+            allowed,
+            header: if ANY_HEADER.is_given(words) {
+                ExpectedHeader::Any
+            } else {
+                ExpectedHeader::OfJob
+            },
+            most: usize::try_from(most).unwrap_or(usize::MAX),
+            is_synced: !NO_SYNC.is_given(words),
+            is_json: JSON.is_given(words),
+            is_quiet: QUIET.is_given(words),
+            progress: progress_mode(words, &QUIET, terminals.errors),
+        })
+    }
+
+    // Receives a stream. Closed streams are occupied, and the output is created, only once the first bytes
+    // came, so a closed standard input is an error and not an empty input.
+    fn receive<R: Host, I: Read + Drop>(
+        &self,
+        rt: &R,
+        asked: Asked,
+        input: I,
+    ) -> Result<u8, Failure> {
+        let incoming = match Incoming::begin(rt.alloc(), input) {
+            Ok(incoming) => incoming,
+            Err(Ended::Unreadable(error)) => {
+                return Err(Failure::cannot_read(rt.alloc(), self.input, &error));
+            }
+            Err(_) => return Err(Failure::from(AllocError)),
+        };
+        let _streams = occupy_std_fds(rt)?;
+        let Asked { job, paths } = asked;
+        let stream = Stream {
+            job: &job,
+            paths,
+            incoming,
+        };
+        match self.path {
+            None => self.pass_on(rt, stream),
+            Some(path) => self.store(rt, path, stream),
+        }
+    }
+
+    // Passes a stream on to standard output.
+    fn pass_on<R: Host, I: Read + Drop>(
+        &self,
+        rt: &R,
+        stream: Stream<'_, I>,
+    ) -> Result<u8, Failure> {
+        let job = stream.job;
+        let outcome = self.take(rt, stream, io::writer(rt))?;
+        self.report(job, "-").print(rt, &outcome, true);
+        Ok(status_of(&outcome.ended))
+    }
+
+    // Writes a stream to a file, which gets its name if the stream is accepted, and is discarded if it is none.
+    fn store<R: Host, I: Read + Drop>(
+        &self,
+        rt: &R,
+        path: &str,
+        stream: Stream<'_, I>,
+    ) -> Result<u8, Failure> {
+        let job = stream.job;
+        let output = Output::create(rt, path, &[self.input], self.is_synced)?;
+        let outcome = match self.take(rt, stream, &output) {
+            Ok(outcome) => outcome,
+            Err(failure) => {
+                output.discard(rt);
+                return Err(failure);
+            }
+        };
+        let published = match &outcome.ended {
+            Ended::Accepted(_) => output.publish_whole(rt),
+            Ended::NoCar(_) | Ended::Unreadable(_) => {
+                output.discard(rt);
+                Ok(())
+            }
+            Ended::Rejected(_) | Ended::Unwritable(_) | Ended::Memory => Ok(()),
+        };
+        self.report(job, path)
+            .print(rt, &outcome, published.is_ok());
+        published.map(|()| status_of(&outcome.ended))
+    }
+
+    // Receives a stream, and shows progress.
+    fn take<R: Host, I: Read + Drop, W: Write + Drop>(
+        &self,
+        rt: &R,
+        stream: Stream<'_, I>,
+        writer: W,
+    ) -> Result<Outcome, Failure> {
+        let Stream {
+            job,
+            paths,
+            incoming,
+        } = stream;
+        let request = Request {
+            alloc: rt.alloc(),
+            job,
+            allowed: self.allowed.unwrap_or(AllowMissing::none()),
+            header: self.header,
+            most: self.most,
+        };
+        let progress = Progress::new(rt, self.progress);
+        let outcome = Reception::new(request, paths, writer)?.receive(incoming, &progress);
+        if progress.is_shown() {
+            progress.end_received();
+        }
+        Ok(outcome)
+    }
+
+    // Returns what a report is made of.
+    fn report<'s>(&'s self, job: &'s Job, path: &'s str) -> Report<'s> {
+        Report {
+            job,
+            input: self.input,
+            path,
+            shows_absent: self.allowed.is_some(),
+            is_json: self.is_json,
+            is_quiet: self.is_quiet,
+        }
+    }
+}
+
+// A stream of which a piece was read, and what is asked of it.
+#[derive(Drop)]
+struct Stream<'s, I> {
+    job: &'s Job,
+    paths: PathWatch,
+    incoming: Incoming<I>,
+}
+
+// Returns the status of a stream.
+fn status_of(ended: &Ended) -> u8 {
+    match ended {
+        Ended::Accepted(_) => 0,
+        Ended::Rejected(_) | Ended::Unwritable(_) | Ended::Memory => NOT_RECEIVED,
+        Ended::NoCar(_) | Ended::Unreadable(_) => REFUSED,
+    }
+}

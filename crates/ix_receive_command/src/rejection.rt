@@ -1,0 +1,175 @@
+//! Why a stream is rejected.
+
+use ix_car::CarKind;
+use ix_cid::Cid;
+use ix_own_archive::{ArchiveReason, ReceiveFault, StreamFault, StreamReason};
+use std::alloc::{AllocError, Global};
+
+/// Why a stream is rejected, and where.
+#[derive(Drop)]
+pub(crate) struct Rejection {
+    /// The offset in the stream: 0 for the header, where its length begins for a section, or the end.
+    pub place: u64,
+    /// Why, in a word.
+    pub reason: String,
+    /// The CID of the section there, and of the block that is expected in its place, if they are known.
+    pub cid: Option<String>,
+    pub expected: Option<String>,
+    // What is added to the line after the place.
+    detail: String,
+    // The whole line, if it is that of a path.
+    line: Option<String>,
+}
+
+impl Rejection {
+    /// Makes the rejection for an error of a stream. Returns None if that is that memory ran out.
+    pub(crate) fn of(alloc: Global, fault: &StreamFault) -> Result<Option<Rejection>, AllocError> {
+        let place = fault.place;
+        match &fault.reason {
+            StreamReason::Archive(reason) => archive_rejection(alloc, place, reason),
+            StreamReason::SectionLength(length) => {
+                let detail = format!(in alloc;
+                    "a section of {length} bytes, more than --max-block allows"
+                )?;
+                Ok(Some(Rejection::by(alloc, place, "length", detail)?))
+            }
+            // What is no header is no CARv1 file, and no stream that is rejected.
+            StreamReason::HeaderLength(_) | StreamReason::Ended => Ok(None),
+        }
+    }
+
+    /// Makes the rejection for a path that doesn't end in the blocks that came: the line has what there is
+    /// instead.
+    pub(crate) fn of_path(
+        alloc: Global,
+        place: u64,
+        obstacle: &str,
+    ) -> Result<Rejection, AllocError> {
+        let mut rejection = Rejection::by(alloc, place, "path", String::new(alloc))?;
+        rejection.line = Some(format!(in alloc; "--root: {obstacle}")?);
+        Ok(rejection)
+    }
+
+    // Makes a rejection with this word and this detail.
+    fn by(alloc: Global, place: u64, word: &str, detail: String) -> Result<Rejection, AllocError> {
+        Ok(Rejection {
+            place,
+            reason: String::from_str(alloc, word)?,
+            cid: None,
+            expected: None,
+            detail,
+            line: None,
+        })
+    }
+
+    /// Returns the line that is printed, for the stream of this path.
+    pub(crate) fn line(&self, alloc: Global, path: &str) -> Result<String, AllocError> {
+        if let Some(line) = &self.line {
+            return line.clone();
+        }
+        let (reason, place) = (self.reason.as_str(), self.place);
+        let detail = self.detail.as_str();
+        format!(in alloc; "{path}: {reason} at {place}: {detail}")
+    }
+}
+
+// Makes the rejection for what is wrong with an archive.
+fn archive_rejection(
+    alloc: Global,
+    place: u64,
+    reason: &ArchiveReason,
+) -> Result<Option<Rejection>, AllocError> {
+    let (word, detail) = match reason {
+        ArchiveReason::OtherHeader => (
+            "header",
+            "another header than that of the roots; --any-header accepts any",
+        ),
+        ArchiveReason::Header(CarKind::Memory)
+        | ArchiveReason::Section(CarKind::Memory)
+        | ArchiveReason::Memory => return Ok(None),
+        ArchiveReason::Header(kind) => return car_rejection(alloc, place, kind, "header"),
+        ArchiveReason::Section(kind) => return car_rejection(alloc, place, kind, "section"),
+        ArchiveReason::Refused(cid, fault) => return refusal(alloc, place, fault, Some(cid)),
+        ArchiveReason::Unfinished(fault) => return refusal(alloc, place, fault, None),
+    };
+    let detail = String::from_str(alloc, detail)?;
+    Ok(Some(Rejection::by(alloc, place, word, detail)?))
+}
+
+// Makes the rejection for a header or a section that can't be read.
+fn car_rejection(
+    alloc: Global,
+    place: u64,
+    kind: &CarKind,
+    part: &str,
+) -> Result<Option<Rejection>, AllocError> {
+    let word = format!(in alloc; "{kind}")?;
+    let detail = match kind {
+        CarKind::Truncated => format!(in alloc; "the stream ends within a {part}")?,
+        CarKind::Varint => format!(in alloc; "not the length of a {part}")?,
+        CarKind::SectionCid => format!(in alloc; "the section doesn't begin with a CID")?,
+        _ => format!(in alloc; "not the {part} of a CARv1 file")?,
+    };
+    Ok(Some(Rejection::by(alloc, place, word.as_str(), detail)?))
+}
+
+// Makes the rejection for a section with this CID, or for the end, that a receiver refuses.
+fn refusal(
+    alloc: Global,
+    place: u64,
+    fault: &ReceiveFault,
+    cid: Option<&Cid>,
+) -> Result<Option<Rejection>, AllocError> {
+    let cid = match cid {
+        Some(cid) => Some(cid.text(alloc)?),
+        None => None,
+    };
+    let (word, after) = match fault {
+        ReceiveFault::Unsound(verdict) => (format!(in alloc; "{verdict}")?, ""),
+        ReceiveFault::Repeated => (
+            String::from_str(alloc, "repeated")?,
+            ": it came before; ask for dups=n",
+        ),
+        ReceiveFault::OutOfOrder => (
+            String::from_str(alloc, "order")?,
+            ": it was missing where it was expected first",
+        ),
+        ReceiveFault::NotAskedFor => (String::from_str(alloc, "surplus")?, ": it isn't asked for"),
+        ReceiveFault::Missing(expected) => return missing(alloc, place, expected, cid),
+        ReceiveFault::Limit => (
+            String::from_str(alloc, "limit")?,
+            ": more links than --limit allows",
+        ),
+        ReceiveFault::Ended | ReceiveFault::Memory => return Ok(None),
+    };
+    let at = match &cid {
+        Some(cid) => cid.as_str(),
+        None => "the end",
+    };
+    let detail = format!(in alloc; "{at}{after}")?;
+    let mut rejection = Rejection::by(alloc, place, word.as_str(), detail)?;
+    rejection.cid = cid;
+    Ok(Some(rejection))
+}
+
+// Makes the rejection for a block that is missing where a section with another CID, or the end, is.
+fn missing(
+    alloc: Global,
+    place: u64,
+    expected: &Cid,
+    cid: Option<String>,
+) -> Result<Option<Rejection>, AllocError> {
+    let expected = expected.text(alloc)?;
+    let wanted = expected.as_str();
+    let detail = match &cid {
+        Some(cid) => {
+            let came = cid.as_str();
+            format!(in alloc; "expected {wanted}, and {came} came")?
+        }
+        None => format!(in alloc; "expected {wanted}, and the stream ends")?,
+    };
+    let mut rejection = Rejection::by(alloc, place, "missing", detail)?;
+    rejection.cid = cid;
+    rejection.expected = Some(expected);
+    Ok(Some(rejection))
+}

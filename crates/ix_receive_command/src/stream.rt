@@ -1,0 +1,331 @@
+//! A stream that is read, checked and written piece by piece.
+
+use crate::path_watch::PathWatch;
+use crate::rejection::Rejection;
+use ix_car::{CarKind, header_of};
+use ix_cid::read_varint;
+use ix_cli_io::Progress;
+use ix_inspect::{Kind, kind_of};
+use ix_options::words_of;
+use ix_own_archive::{
+    AllowMissing, ArchiveReason, Counts, ExpectedHeader, StreamFault, StreamLimits, StreamReason,
+    StreamReceiver,
+};
+use ix_walk::Job;
+use std::alloc::{AllocError, Global};
+use std::io::{self, ErrorKind, Read, Write};
+use std::rt::Clock;
+
+// How many bytes are read at once at most.
+const PIECE: usize = 64 * 1024;
+
+// How many bytes of a stream show what it is.
+const FRONT: usize = 512;
+
+// The greatest length of a header.
+const MOST_HEADER: usize = 32 * 1024 * 1024;
+
+// What the headers of CARv1 files begin with after their length.
+const HEADER_BEGINNING: &[u8] = b"\xa2\x65roots";
+
+/// How a stream ended.
+#[derive(Drop)]
+pub(crate) enum Ended {
+    /// All of it was accepted, and written.
+    Accepted(Counts),
+    Rejected(Rejection),
+    /// It is no CARv1 file, as this line says.
+    NoCar(String),
+    Unreadable(io::Error),
+    Unwritable(io::Error),
+    /// Memory ran out.
+    Memory,
+}
+
+impl From<AllocError> for Ended {
+    fn from(_error: AllocError) -> Ended {
+        Ended::Memory
+    }
+}
+
+/// What was written of a stream, and how it ended.
+#[derive(Drop)]
+pub(crate) struct Outcome {
+    pub ended: Ended,
+    pub sections: u64,
+    pub bytes: u64,
+}
+
+/// A stream of which a piece was read.
+#[derive(Drop)]
+pub(crate) struct Incoming<I> {
+    input: I,
+    buffer: Vec<u8>,
+    // How many bytes of the buffer the piece has: none at the end.
+    count: usize,
+    // The first bytes of the stream.
+    front: Vec<u8>,
+}
+
+impl<I: Read + Drop> Incoming<I> {
+    /// Reads the first piece of a stream: as many bytes as are there.
+    pub(crate) fn begin(alloc: Global, input: I) -> Result<Incoming<I>, Ended> {
+        let mut incoming = Incoming {
+            input,
+            buffer: vec![in alloc; 0u8; PIECE]?,
+            count: 0,
+            front: Vec::new(alloc),
+        };
+        incoming.advance()?;
+        Ok(incoming)
+    }
+
+    // Reads the next piece.
+    fn advance(&mut self) -> Result<(), Ended> {
+        match read_some(&mut self.input, self.buffer.as_mut_slice()) {
+            Ok(count) => self.count = count,
+            Err(error) => return Err(Ended::Unreadable(error)),
+        }
+        let (piece, _) = self.buffer.split_at(self.count.min(self.buffer.len()));
+        let left = FRONT.saturating_sub(self.front.len());
+        let (front, _) = piece.split_at(left.min(piece.len()));
+        self.front.extend_from_slice(front)?;
+        Ok(())
+    }
+
+    // Returns the piece.
+    fn piece(&self) -> &[u8] {
+        let (piece, _) = self.buffer.split_at(self.count.min(self.buffer.len()));
+        piece
+    }
+}
+
+// Reads what is there, or waits for the next byte. A read that was interrupted is repeated.
+fn read_some<I: Read>(input: &mut I, buffer: &mut [u8]) -> io::Result<usize> {
+    for _ in 0..u64::MAX {
+        match input.read(buffer) {
+            Err(error) if error.kind() == ErrorKind::Interrupted => {}
+            read => return read,
+        }
+    }
+    Ok(0)
+}
+
+/// What is asked of a stream.
+#[derive(Clone, Copy)]
+pub(crate) struct Request<'s> {
+    pub alloc: Global,
+    pub job: &'s Job,
+    pub allowed: AllowMissing,
+    pub header: ExpectedHeader,
+    /// The greatest length of a section.
+    pub most: usize,
+}
+
+/// A stream that is checked, and of which is written what is checked.
+#[derive(Drop)]
+pub(crate) struct Reception<'s, W> {
+    request: Request<'s>,
+    receiver: StreamReceiver<'s>,
+    paths: PathWatch,
+    writer: W,
+    // How many sections and bytes were written.
+    sections: u64,
+    bytes: u64,
+}
+
+impl<'s, W: Write + Drop> Reception<'s, W> {
+    /// Creates the reception of a stream of which nothing has come.
+    pub(crate) fn new(
+        request: Request<'s>,
+        paths: PathWatch,
+        writer: W,
+    ) -> Result<Reception<'s, W>, AllocError> {
+        let Request {
+            alloc,
+            job,
+            allowed,
+            header,
+            most,
+        } = request;
+        let limits = StreamLimits {
+            header: MOST_HEADER,
+            section: most,
+        };
+        Ok(Reception {
+            request,
+            receiver: StreamReceiver::new(alloc, job, allowed, header, limits)?,
+            paths,
+            writer,
+            sections: 0,
+            bytes: 0,
+        })
+    }
+
+    /// Receives a stream to its end, or to the first error.
+    pub(crate) fn receive<I, R>(self, incoming: Incoming<I>, progress: &Progress<R>) -> Outcome
+    where
+        I: Read + Drop,
+        R: AllocGlobal + Clock + Eprint,
+    {
+        let (mut reception, mut incoming) = (self, incoming);
+        match reception.take_all(&mut incoming, progress) {
+            Ok(()) => reception.finish(incoming.front.as_slice()),
+            Err(ended) => Outcome {
+                ended,
+                sections: reception.sections,
+                bytes: reception.bytes,
+            },
+        }
+    }
+
+    // Takes the pieces of a stream, each as soon as it is there.
+    fn take_all<I, R>(
+        &mut self,
+        incoming: &mut Incoming<I>,
+        progress: &Progress<R>,
+    ) -> Result<(), Ended>
+    where
+        I: Read + Drop,
+        R: AllocGlobal + Clock + Eprint,
+    {
+        for _ in 0..u64::MAX {
+            let piece = incoming.piece();
+            if piece.is_empty() {
+                break;
+            }
+            let (count, front) = (piece.len() as u64, incoming.front.as_slice());
+            self.take(piece, front)?;
+            progress.set_received(self.sections, count);
+            incoming.advance()?;
+        }
+        Ok(())
+    }
+
+    // Takes the next bytes, and writes what they complete.
+    fn take(&mut self, piece: &[u8], front: &[u8]) -> Result<(), Ended> {
+        let alloc = self.request.alloc;
+        let before = self.bytes;
+        let appended = self.receiver.append(piece);
+        let sections = self.receiver.sections();
+        if let Some(stop) = self.paths.look(self.receiver.checked())? {
+            self.write(stop.end)?;
+            self.sections = sections.saturating_sub(stop.after);
+            let place = before.saturating_add(stop.start as u64);
+            let rejection = Rejection::of_path(alloc, place, stop.line.as_str())?;
+            return Err(Ended::Rejected(rejection));
+        }
+        self.write(usize::MAX)?;
+        self.sections = sections;
+        self.receiver.release();
+        match appended {
+            Ok(()) => Ok(()),
+            Err(fault) => Err(ended_by(&self.request, &fault, front)?),
+        }
+    }
+
+    // Writes so many of the bytes that are checked, or all.
+    fn write(&mut self, most: usize) -> Result<(), Ended> {
+        let checked = self.receiver.checked();
+        let (bytes, _) = checked.split_at(most.min(checked.len()));
+        match self.writer.write_all(bytes) {
+            Ok(()) => {
+                self.bytes = self.bytes.saturating_add(bytes.len() as u64);
+                Ok(())
+            }
+            Err(error) => Err(Ended::Unwritable(error)),
+        }
+    }
+
+    // Ends the stream, which begins with these bytes, and flushes what was written of it.
+    fn finish(self, front: &[u8]) -> Outcome {
+        let Reception {
+            request,
+            receiver,
+            paths,
+            mut writer,
+            sections,
+            bytes,
+        } = self;
+        let ended = match finished(&request, receiver, &paths, bytes, front) {
+            Ok(counts) => match writer.flush() {
+                Ok(()) => Ended::Accepted(counts),
+                Err(error) => Ended::Unwritable(error),
+            },
+            Err(ended) => ended,
+        };
+        Outcome {
+            ended,
+            sections,
+            bytes,
+        }
+    }
+}
+
+// Ends a stream of so many bytes, which begins with these. Its paths have to be at their ends.
+fn finished(
+    request: &Request<'_>,
+    receiver: StreamReceiver<'_>,
+    paths: &PathWatch,
+    bytes: u64,
+    front: &[u8],
+) -> Result<Counts, Ended> {
+    let counts = match receiver.finish() {
+        Ok(counts) => counts,
+        Err(fault) => return Err(ended_by(request, &fault, front)?),
+    };
+    match paths.finish()? {
+        None => Ok(counts),
+        Some(line) => {
+            let rejection = Rejection::of_path(request.alloc, bytes, line.as_str())?;
+            Err(Ended::Rejected(rejection))
+        }
+    }
+}
+
+// Returns how a stream that begins with these bytes ends by an error.
+fn ended_by(request: &Request<'_>, fault: &StreamFault, front: &[u8]) -> Result<Ended, AllocError> {
+    let alloc = request.alloc;
+    if let StreamReason::Archive(ArchiveReason::Header(kind)) = &fault.reason
+        && *kind != CarKind::Memory
+        && !(*kind == CarKind::Truncated && is_cut_header(request, front)?)
+    {
+        let is = what_it_is(front);
+        return Ok(Ended::NoCar(format!(in alloc; "{kind} at 0: {is}")?));
+    }
+    if let StreamReason::HeaderLength(length) = &fault.reason {
+        return Ok(Ended::NoCar(format!(in alloc;
+            "header at 0: a header of {length} bytes, and a CARv1 file has at most 32 MiB"
+        )?));
+    }
+    match Rejection::of(alloc, fault)? {
+        Some(rejection) => Ok(Ended::Rejected(rejection)),
+        None => Ok(Ended::Memory),
+    }
+}
+
+// Returns what a stream that begins with these bytes is, in words.
+fn what_it_is(front: &[u8]) -> &'static str {
+    match kind_of(front) {
+        Kind::Car2 => "a CARv2 file; a stream is the CARv1 in it",
+        kind => words_of(kind),
+    }
+}
+
+// Returns whether a stream that ended within its header began with that of a CARv1 file.
+fn is_cut_header(request: &Request<'_>, front: &[u8]) -> Result<bool, AllocError> {
+    if front.is_empty() {
+        return Ok(false);
+    }
+    if header_of(request.alloc, request.job.roots())?.starts_with(front) {
+        return Ok(true);
+    }
+    match read_varint(front) {
+        Ok((_, size)) => {
+            let (_, header) = front.split_at(size.min(front.len()));
+            let is_long = header.starts_with(HEADER_BEGINNING);
+            Ok(is_long || !header.is_empty() && HEADER_BEGINNING.starts_with(header))
+        }
+        Err(_) => Ok(false),
+    }
+}

@@ -1,0 +1,315 @@
+#!/usr/bin/env python3
+"""Receives streams beside a model of the decision: it takes the next section if that is sound and the next block of the traversal
+that isn't here yet, and names the first place otherwise. The streams are the archives of random jobs over random graphs, in
+which blocks are damaged, missing or in their CIDs, in pieces of 1, 7, 4,096 and 65,536 bytes; the same with one section left
+out, doubled, swapped with the next, moved to the end, or one that nobody asked for in each gap; small ones with each byte changed
+and cut at each byte; and those of paths. The line, the status and the bytes that are written are compared whole. `--seed` takes
+others. Ends with status 1 at the first that is wrong.
+"""
+
+import argparse
+import os
+import pathlib
+import random
+import subprocess
+import sys
+import tempfile
+
+TESTS = pathlib.Path(__file__).resolve().parent
+sys.path[:0] = [str(TESTS)]
+sys.dont_write_bytecode = True
+import once
+import paths
+from differences import sections_of
+from hostile import DAG_CBOR, DIGESTS, IDENTITY, PROGRAM, RAW, SECONDS_A_RUN, Wrong, cid, header, section, text
+
+PIECES = (1, 7, 4096, 65536)
+ALLOWED = {"": (), "raw": (RAW,), "dag-cbor": (DAG_CBOR,), "all": (RAW, DAG_CBOR)}
+
+
+# The model.
+
+
+class Rejected(Exception):
+    """A stream that is rejected: how many bytes are written, and the line after the path."""
+
+
+class Reception:
+    """What has come of an archive of a job, by the definition: the traversal over the sections that are here, each block
+    expanded once with what is left of the selector."""
+
+    def __init__(self, nodes, selector, roots, limit, allowed):
+        self.nodes, self.selector, self.roots, self.limit, self.allowed = nodes, selector, roots, limit, allowed
+        self.waiting = [(root, selector.start()) for root in reversed(roots)]
+        self.here, self.missing, self.gone = {}, set(), set()
+        self.visits = self.absent = 0
+
+    def expand(self, key, rest):
+        codec, hash_code, digest = once.parts(key)
+        block = digest if hash_code == IDENTITY else self.here.get(key)
+        node = self.nodes.get(block) if codec == DAG_CBOR and hash_code in DIGESTS else None
+        if node is not None and (key, rest) not in self.gone:
+            self.gone.add((key, rest))
+            self.waiting += reversed(list(self.selector.links(node, rest)))
+        self.visits += 1
+
+    def next(self, place, at):
+        """The next link, or None at the end."""
+        if not self.waiting:
+            return None
+        if self.visits == self.limit:
+            raise Rejected(place, f"limit at {place}: {at}: more links than --limit allows")
+        return self.waiting.pop()
+
+    def pass_by(self, key, rest, place, came):
+        codec, hash_code, _ = once.parts(key)
+        if codec in (RAW, DAG_CBOR) and hash_code in DIGESTS and hash_code != IDENTITY and key not in self.here:
+            if codec not in self.allowed or key in self.roots:
+                raise Rejected(place, f"missing at {place}: expected {text(key)}, and {came}")
+            self.missing.add(key)
+            self.absent += 1
+        self.expand(key, rest)
+
+    def take(self, place, key, block):
+        codec, hash_code, digest = once.parts(key)
+        at = f"at {place}: {text(key)}"
+        word = None
+        if codec not in (RAW, DAG_CBOR):
+            word = "codec"
+        elif hash_code != IDENTITY and hash_code not in DIGESTS:
+            word = "hash"
+        elif hash_code == IDENTITY:
+            word = "malformed" if codec == DAG_CBOR and digest not in self.nodes else "inline"
+        elif DIGESTS[hash_code](block) != digest:
+            word = "damaged"
+        elif codec == DAG_CBOR and block not in self.nodes:
+            word = "malformed"
+        if word:
+            raise Rejected(place, f"{word} {at}")
+        if key in self.here:
+            raise Rejected(place, f"repeated {at}: it came before; ask for dups=n")
+        if key in self.missing:
+            raise Rejected(place, f"order {at}: it was missing where it was expected first")
+        while found := self.next(place, text(key)):
+            if found[0] == key:
+                self.here[key] = block
+                return self.expand(*found)
+            self.pass_by(*found, place, f"{text(key)} came")
+        raise Rejected(place, f"surplus {at}: it isn't asked for")
+
+    def finish(self, place):
+        while found := self.next(place, "the end"):
+            self.pass_by(*found, place, "the stream ends")
+
+
+def told(nodes, job, allowed, sections, tail=b""):
+    """How many bytes of a stream are written, and its report or line: of a header for the job's roots, sections, and the
+    beginning of another one."""
+    _, selector, roots, limit, _ = job
+    reception = Reception(nodes, selector, roots, limit, ALLOWED[allowed])
+    place = len(header(roots))
+    try:
+        for key, block in sections:
+            reception.take(place, key, block)
+            place += len(section(key, block))
+        if tail:
+            raise Rejected(place, f"truncated at {place}: the stream ends within a section")
+        reception.finish(place)
+    except Rejected as rejected:
+        return rejected.args[0], "-: " + rejected.args[1]
+    absent = f" absent={reception.absent}" if allowed else ""
+    visits = reception.visits
+    counts = f"visits={visits} kept={visits} sections={len(sections)} bytes={place}"
+    return None, f"receive done {counts}{absent}\ntotal jobs=1 done=1 skips=0"
+
+
+# Runs.
+
+
+def received(room, stream, words, piece):
+    """The status of a run, its lines, and what it wrote under its name and its part."""
+    out, part = room / "a.car", room / "a.car.part"
+    for old in (out, part):
+        old.unlink(missing_ok=True)
+    run = [PROGRAM, "receive", "--no-sync", "--out", out, *words]
+    child = subprocess.Popen(run, stdin=subprocess.PIPE, stdout=subprocess.DEVNULL, stderr=subprocess.PIPE)
+    try:
+        for at in range(0, len(stream), piece):
+            os.write(child.stdin.fileno(), stream[at : at + piece])
+    except BrokenPipeError:
+        pass
+    try:
+        _, lines = child.communicate(timeout=SECONDS_A_RUN)
+    except subprocess.TimeoutExpired:
+        child.kill()
+        raise Wrong(f"receive {words} took {SECONDS_A_RUN} seconds for {stream.hex()}") from None
+    files = [path.read_bytes() if path.exists() else None for path in (out, part)]
+    return child.returncode, lines.decode(), *files
+
+
+def words_of(job, allowed):
+    _, _, roots, limit, line = job
+    words = ["--root", ",".join(map(text, roots)), "--limit", str(limit), "--selector-hex", line.split(" ")[-1]]
+    return words + (["--allow-missing", allowed] if allowed else [])
+
+
+def judge(room, nodes, job, allowed, sections, piece, tail=b""):
+    """Receives a stream, and compares all of it with the model. Returns whether it was accepted."""
+    stream = header(job[2]) + b"".join(section(*pair) for pair in sections) + tail
+    size, line = told(nodes, job, allowed, sections, tail)
+    wanted = (0, line + "\n", stream, None) if size is None else (4, line + "\n", None, stream[:size])
+    came = received(room, stream, words_of(job, allowed), piece)
+    if came != wanted:
+        raise Wrong(f"{came} came and {wanted} was wanted of {job[-1]} --allow-missing {allowed}, of {stream.hex()}")
+    return size is None
+
+
+def random_streams(room, seed, graphs):
+    """What `get` writes, in pieces, and each change of its sections."""
+    streams = accepted = changes = kept = 0
+    for number in range(graphs):
+        chance = random.Random(f"{seed}-{number}")
+        graph, keys = once.random_graph(chance)
+        (room / "blocks.car").write_bytes(graph.car())
+        tried = once.random_jobs(chance, keys)
+        most = None
+        try:
+            for index, job in enumerate(tried):
+                name, selector, roots, limit, _ = job
+                _, _, archive = once.told(graph, name, selector, roots, limit, True)
+                if index == 0:
+                    get = [PROGRAM, "get", "--blocks", room / "blocks.car", *words_of(job, "")]
+                    done = subprocess.run(get, capture_output=True, timeout=SECONDS_A_RUN)
+                    if done.stdout != archive:
+                        raise Wrong(f"another archive of get {job[-1]}, over {graph.car().hex()}")
+                sections = sections_of(archive)[1]
+                allowed = chance.choice(list(ALLOWED))
+                accepted += judge(room, graph.nodes, job, allowed, sections, PIECES[index % 4])
+                streams += 1
+                if 1 < len(sections) < 7 and (most is None or len(sections) > len(most[1])):
+                    most = job, sections
+            if most:
+                for allowed in ("", "all"):
+                    for changed in changes_of(chance, *most):
+                        kept += judge(room, graph.nodes, most[0], allowed, changed, chance.choice(PIECES))
+                        changes += 1
+        except Wrong as wrong:
+            raise Wrong(f"seed {seed}-{number}: {wrong}") from None
+    if not (0 < accepted < streams and kept < changes):
+        raise Wrong(f"{accepted} of {streams} streams and {kept} of {changes} changed ones were accepted")
+    return f"{streams} streams of random jobs, {accepted} accepted, and {changes} with other sections, {kept} accepted"
+
+
+def changes_of(chance, job, sections):
+    """The sections with one left out, doubled, swapped with the next and moved to the end, and with one that nobody asked for
+    in each gap."""
+    foreign = chance.randbytes(5)
+    for at, pair in enumerate(sections):
+        before, after = sections[:at], sections[at + 1 :]
+        yield before + after
+        yield before + [pair, pair] + after
+        yield before + after[:1] + [pair] + after[1:]
+        yield before + after + [pair]
+    for at in range(len(sections) + 1):
+        yield sections[:at] + [(cid(RAW, foreign), foreign)] + sections[at:]
+
+
+def changed_bytes(room, seed, graphs):
+    """Small archives with each byte changed: none is accepted, and what is written ends before the part with that byte."""
+    runs, chance = 0, random.Random(f"{seed} bytes")
+    for job, graph, sections in small_archives(chance, 2):
+        stream = header(job[2]) + b"".join(section(*pair) for pair in sections)
+        starts = [0, len(header(job[2]))]
+        for pair in sections:
+            starts.append(starts[-1] + len(section(*pair)))
+        for at in range(len(stream)):
+            changed = bytearray(stream)
+            changed[at] ^= chance.randrange(1, 256)
+            begin = max(start for start in starts if start <= at)
+            came = received(room, bytes(changed), words_of(job, ""), chance.choice(PIECES))
+            # A header that can't be read is no CARv1 file, and nothing is left of that.
+            wanted = [(4, bytes(changed[:begin]))] + ([(2, None)] if begin == 0 else [])
+            if (came[0], came[3]) not in wanted or came[2] is not None or f" at {begin}: " not in came[1]:
+                raise Wrong(f"{came} of {job[-1]}, of {changed.hex()}, which is changed at {at}")
+            runs += 1
+    return f"{runs} changed bytes"
+
+
+def cut_streams(room, seed, graphs):
+    """A small archive that is cut at each byte after its header."""
+    runs, chance = 0, random.Random(f"{seed} cuts")
+    for job, graph, sections in small_archives(chance, 1):
+        for count in range(len(sections)):
+            whole = section(*sections[count])
+            for size in range(len(whole)):
+                judge(room, graph.nodes, job, "", sections[:count], chance.choice(PIECES), whole[:size])
+                runs += 1
+    return f"{runs} cut streams"
+
+
+def small_archives(chance, count):
+    """So many jobs whose whole archives have two or three sections and no skip, with their graphs."""
+    while count:
+        graph, keys = once.random_graph(chance)
+        for job in once.random_jobs(chance, keys):
+            name, selector, roots, limit, _ = job
+            end, lines, archive = once.told(graph, name, selector, roots, limit, True)
+            sections = sections_of(archive)[1]
+            if end == "done" and len(lines) == 1 and 1 < len(sections) < 4 and len(archive) < 400 and len(roots) == 1:
+                yield job, graph, sections
+                count -= 1
+                break
+
+
+def random_paths(room, seed, graphs):
+    """Paths through random graphs: what `get` writes of one is received, and where one leads no further, the blocks on it are
+    rejected with the line of `get`."""
+    runs = 0
+    for number in range(graphs):
+        graph = paths.Graph(random.Random(f"{seed} {number}"))
+        file = room / "graph.car"
+        file.write_bytes(graph.file())
+        for segments, way, why in paths.paths_of(graph):
+            if not segments:
+                continue
+            path = "/".join([text(graph.root), *map(paths.escaped, segments)]) + "/" * (segments[-1:] == [b""])
+            words = ["--root", path, "--allow-missing", "all"]
+            scope = graph.chance.choice([[], ["--scope", "block"]])
+            if why:
+                whole = [key for key in way if key not in graph.damaged]
+                stream = paths.archive_of(graph, whole)
+                line = why.replace("damaged", "missing")
+                is_early = once.parts(graph.root)[1] == IDENTITY and len(stream) == len(header([graph.root]))
+                came = received(room, stream, [*words, *scope], graph.chance.choice(PIECES))
+                status = 2 if is_early and not line.startswith("missing") else 4
+                if came[0] != status or came[2] is not None or not came[1].startswith(("--root: " + line, "-: missing at ")):
+                    raise Wrong(f"{came} of {path}, which has {why}, of {stream.hex()}, graph {number}")
+            else:
+                get = [PROGRAM, "get", "--blocks", file, "--root", path, *scope]
+                stream = subprocess.run(get, capture_output=True, timeout=SECONDS_A_RUN).stdout
+                came = received(room, stream, [*words, *scope], graph.chance.choice(PIECES))
+                if came[0] != 0 or came[2] != stream:
+                    raise Wrong(f"{came} of {path} {scope}, of {stream.hex()}, graph {number}")
+            runs += 1
+    return f"{runs} paths"
+
+
+def main():
+    parser = argparse.ArgumentParser(description=__doc__)
+    parser.add_argument("--seed", default="1")
+    parser.add_argument("--graphs", type=int, default=40, help="how many random graphs")
+    words = parser.parse_args()
+    answers = []
+    with tempfile.TemporaryDirectory(prefix="receive-") as room:
+        for part in (random_streams, changed_bytes, cut_streams, random_paths):
+            try:
+                answers.append(part(pathlib.Path(room), words.seed, words.graphs))
+            except Wrong as wrong:
+                print(f"tests/receive.py: FAILED: {part.__name__}: {wrong}", file=sys.stderr)
+                return 1
+    print(f"tests/receive.py: passed: {'; '.join(answers)}")
+    return 0
+
+
+if __name__ == "__main__":
+    sys.exit(main())
