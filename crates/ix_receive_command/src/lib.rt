@@ -6,7 +6,7 @@
 #![tactic(auto)]
 
 mod asked;
-mod json;
+mod json_receive;
 mod path_watch;
 pub mod receive;
 mod rejection;

@@ -1,6 +1,6 @@
 //! What is printed of a stream that ended.
 
-use crate::json::{accepted_objects, other_objects};
+use crate::json_receive::{accepted_objects, other_objects};
 use crate::stream::{Ended, Outcome};
 use ix_archive::{Counts, End};
 use ix_cli_io::print_report;
