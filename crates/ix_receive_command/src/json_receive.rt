@@ -4,7 +4,9 @@ use crate::rejection::Rejection;
 use crate::stream::{Ended, Outcome};
 use ix_archive::{Counts, End};
 use ix_jobs::JobResult;
-use ix_json_report::{ArchivePlace, end_line, push_job, push_number, push_text, push_total};
+use ix_json_report::{
+    ArchivePlace, SkipNotes, end_line, push_job, push_number, push_text, push_total,
+};
 use ix_walk::Job;
 use json::Writer;
 use std::alloc::{AllocError, Global};
@@ -25,7 +27,8 @@ pub(crate) fn accepted_objects(
     } else {
         ArchivePlace::Part(part.as_str())
     };
-    let text = push_job(alloc, Vec::new(alloc), job, outcome, absent, place)?;
+    let notes = SkipNotes { absent, paths: &[] };
+    let text = push_job(alloc, Vec::new(alloc), job, outcome, notes, place)?;
     push_total(text, slice::from_ref(outcome))
 }
 
