@@ -102,9 +102,9 @@ impl PathWatch {
             self.has_header = true;
             rest = sections;
         }
-        while !rest.is_empty() {
+        for _ in 0..checked.len() {
             let Ok((section, after)) = read_section(rest.len(), rest) else {
-                return Ok(None);
+                break;
             };
             if let Some(line) = self.add(&section)? {
                 return Ok(Some(PathStop {
@@ -176,9 +176,9 @@ fn missing_line(alloc: Global, cid: &Cid) -> Result<String, AllocError> {
 fn sections_in(bytes: &[u8]) -> u64 {
     let mut count: u64 = 0;
     let mut rest = bytes;
-    while !rest.is_empty() {
+    for _ in 0..bytes.len() {
         let Ok((_, after)) = read_section(rest.len(), rest) else {
-            return count;
+            break;
         };
         count = count.saturating_add(1);
         rest = after;

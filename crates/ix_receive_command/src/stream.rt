@@ -190,16 +190,23 @@ impl<'s, W: Write + Drop> Reception<'s, W> {
         R: AllocGlobal + Clock + Eprint,
     {
         for _ in 0..u64::MAX {
-            let piece = incoming.piece();
-            if piece.is_empty() {
+            let count = self.take_piece(incoming)?;
+            if count == 0 {
                 break;
             }
-            let (count, front) = (piece.len() as u64, incoming.front.as_slice());
-            self.take(piece, front)?;
             progress.set_received(self.sections, count);
             incoming.advance()?;
         }
         Ok(())
+    }
+
+    // Takes the piece that was read of a stream, and returns its length: 0 at the end.
+    fn take_piece<I: Read + Drop>(&mut self, incoming: &Incoming<I>) -> Result<u64, Ended> {
+        let piece = incoming.piece();
+        if !piece.is_empty() {
+            self.take(piece, incoming.front.as_slice())?;
+        }
+        Ok(piece.len() as u64)
     }
 
     // Takes the next bytes, and writes what they complete.
