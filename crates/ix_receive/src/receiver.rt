@@ -1,6 +1,7 @@
 //! The receiver.
 
-ghost use Rattle.std.specs.Prelude.{◌≡◌, true, false, IfOk, IfErr, OnOk, OnErr};
+ghost use Rattle.std.specs.Prelude.{◌≡◌, true, false, map, IfOk, IfErr, OnOk, OnErr};
+ghost use Rattle.ix_receive.specs.Keeping.{kept_of};
 ghost use Rattle.ix_archive.specs.Archive.{is_sound};
 ghost use Rattle.ix_receive.specs.Reception.{nothing_received, IsReceiving, IsReceived, Receives, reception_of, IsRefused, IsRightlyRefused, IsWhole, IsUnfinished};
 
@@ -14,6 +15,7 @@ use crate::sections::Sections;
 use crate::traversal::{Traversal, expand_link};
 use ix_cid::Cid;
 use ix_selector::law;
+use ix_store::Store;
 use ix_verdict::Verdict;
 use ix_walk::Job;
 use std::alloc::Global;
@@ -172,10 +174,11 @@ impl<'s> Receiver<'s> {
         receiver.close()
     }
 
-    // Makes the visits that are left, after which nothing more is received.
-    fn close(&mut self) -> Result<Counts, ReceiveFault>
+    /// Ends the archive as `finish` does, after which nothing more is received.
+    pub fn close(&mut self) -> Result<Counts, ReceiveFault>
         ensures whole { IfOk result (IsWhole self.old) }
         ensures refused { IfErr result (IsUnfinished self.old) }
+        ensures sections { self.new.sections ≡ self.old.sections }
     {
         if self.ended {
             return Err(ReceiveFault::Ended);
@@ -186,5 +189,21 @@ impl<'s> Receiver<'s> {
             visits: self.traversal.visits,
             missing: self.traversal.absent,
         })
+    }
+
+    /// Returns what is kept of the sections that came: the blocks that are DAG-CBOR, and of every other
+    /// section its CID, with no bytes.
+    pub fn into_kept(self) -> Store
+        ensures { result ≡ map kept_of self.entry.sections }
+    {
+        let Receiver {
+            asked,
+            sections,
+            traversal,
+            ended: _,
+        } = self;
+        drop(asked);
+        drop(traversal);
+        sections.into_kept()
     }
 }

@@ -1,6 +1,6 @@
 //! The sections that have come, of which DAG-CBOR blocks alone are kept.
 
-ghost use Rattle.std.specs.Prelude.{◌≡◌, false, [], ◌∷◌, ◌++◌, IfSome, OnOk};
+ghost use Rattle.std.specs.Prelude.{◌≡◌, false, [], ◌∷◌, ◌++◌, map, IfSome, OnOk};
 ghost use Rattle.ix_store.specs.Store.{has_cid, value_of};
 ghost use Rattle.ix_walk.specs.Arriving.{IsValue};
 ghost use Rattle.ix_walk.specs.Descent.{IsItem};
@@ -121,5 +121,14 @@ impl Sections {
         self.kept.add_copy(cid, bytes)?;
         self.history.push(&section);
         Ok(())
+    }
+
+    // Returns what is kept of the sections.
+    pub(crate) fn into_kept(self) -> Store
+        ensures { result ≡ map kept_of self }
+    {
+        let Sections { kept, history } = self;
+        drop(history);
+        kept
     }
 }
