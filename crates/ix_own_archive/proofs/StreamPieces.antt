@@ -1,11 +1,13 @@
 -- A piece of a stream, and its end.
-use Rattle.std.proofs.Common.{◌≡◌, ℕ, ◌-◌, ◌<◌, ◌^◌, Bool, true, false, List, [], ◌++◌, length, refl, sym, ◌∙◌, ap, subst, arith, append_assoc, append-nil, length-append}
+use Rattle.std.proofs.Common.{◌≡◌, ℕ, ◌-◌, ◌<◌, ◌^◌, Bool, true, false, List, [], ◌++◌, length, map, refl, sym, ◌∙◌, ap, subst, arith, append_assoc, append-nil, length-append}
 use Rattle.std.specs.Prelude.{Ok}
 use Rattle.std.specs.List.{AllByRecursion}
 use Rattle.ix_cid.specs.Cid.{IsCid}
+use Rattle.ix_store.specs.Store.{Blocks}
 use Rattle.ix_car.specs.declared.fault.CarKind.TheVariants as kinds
 use Rattle.ix_receive.specs.declared.counts.Counts.{Counts}
 use Rattle.ix_receive.specs.declared.fault.ReceiveFault.{ReceiveFault}
+use Rattle.ix_receive.specs.Keeping.{kept_of}
 use Rattle.ix_receive.specs.Own.{archive_bytes}
 use Rattle.ix_receive.specs.Receiving.{OwnAreReceived}
 use Rattle.ix_receive.specs.Reception.{Reception, nothing_received, IsWhole, IsUnfinished}
@@ -17,7 +19,7 @@ use Rattle.ix_own_archive.specs.declared.stream_fault.StreamReason.{StreamReason
 use Rattle.ix_own_archive.specs.declared.stream_fault.StreamReason.TheVariants.{Archive, HeaderLength, SectionLength, Ended}
 use Rattle.ix_own_archive.specs.Checking.{IsReceivedUpTo, IsRightlyNot}
 use Rattle.ix_own_archive.specs.Fronts.{is_whole}
-use Rattle.ix_own_archive.specs.Streaming.{Asked, Stream, AreChecked, AreParts, no_part, some_parts, IsWaiting, for_header, for_section, TakesOn, StopsAt, IsStreamFault, IsStop, IsStoppedAt, IsWholeStream, taken_of, IsCutAt}
+use Rattle.ix_own_archive.specs.Streaming.{Asked, Stream, AreChecked, AreParts, no_part, some_parts, IsWaiting, for_header, for_section, TakesOn, StopsAt, IsStreamFault, IsStop, IsStoppedAt, IsWholeStream, taken_of, IsCutAt, AreKeptOf, of_none, of_sections}
 use Rattle.ix_own_archive.specs.Taking.{TakenBytes, with_piece, all_released, MovesOn, HasChecked, IsKept, before, within, IsHeld, IsHeadTaken, StopsHere, TakesPiece, StopsAtPiece, stream_of}
 use Rattle.ix_own_archive.proofs.Receiving.{is-own}
 use Rattle.ix_own_archive.proofs.Rightly.{end-not}
@@ -26,6 +28,12 @@ use Rattle.ix_own_archive.proofs.StreamHeaders.{header-cut-off, header-checked}
 use Rattle.ix_own_archive.proofs.Streams.{not-moved, moved-more, so-far, is-archive, is-only, stream-fault, section-stop}
 
 -- ---- what is kept
+
+-- of the sections that are checked
+pub are-kept : (asked : Asked) (b : TakenBytes) (old new : Reception) (kept : Blocks) → IsKept asked b old → new.sections ≡ old.sections → kept ≡ map kept_of new.sections → AreKeptOf asked b.checked kept
+are-kept asked b old new kept (before none first at cut) same is =
+    of_none none (is ∙ ap (map kept_of) (same ∙ ap (λ (r : Reception). r.sections) at))
+are-kept asked b old new kept (within has cut) same is = of_sections old has.bytes (is ∙ ap (map kept_of) same)
 
 -- once a part is checked, it is a header
 pub kept-within : (asked : Asked) (b : TakenBytes) (r : Reception) → 0 < b.parts → IsKept asked b r → HasChecked asked b r × (is_whole asked.limits.section b.rest ≡ Ok false)

@@ -1,10 +1,11 @@
 -- A receiver of a stream as contracts see it, and what is found of a stream.
-use Rattle.std.specs.Prelude.{◌≡◌, ℕ, ◌+◌, ◌<◌, ◌≤◌, ◌^◌, Bool, true, false, List, [], ◌++◌, length, flat_map, Some, Ok, Err, refl}
+use Rattle.std.specs.Prelude.{◌≡◌, ℕ, ◌+◌, ◌<◌, ◌≤◌, ◌^◌, Bool, true, false, List, [], ◌++◌, length, map, flat_map, Some, Ok, Err, refl}
 use Rattle.std.specs.List.{AllByRecursion}
 use Rattle.std.specs.Coded.{Coded, code_by, coded×, coded_ℕ, coded_bool, coded_list}
 use Rattle.std.proofs.Common.{ap}
 use Rattle.ix_cid.specs.Cid.{IsCid}
 use Rattle.ix_cid.specs.Varint.{varint_at}
+use Rattle.ix_store.specs.Store.{Blocks}
 use Rattle.ix_walk.specs.JobMeaning.{JobMeaning, coded_job}
 use Rattle.ix_car.specs.declared.fault.CarKind.{CarKind}
 use Rattle.ix_car.specs.Reading.{header_at}
@@ -12,6 +13,7 @@ use Rattle.ix_car.specs.Writing.{with_length, header_of, section_with}
 use Rattle.ix_receive.specs.declared.allow_missing.AllowMissing.{AllowMissing}
 use Rattle.ix_receive.specs.declared.counts.Counts.{Counts}
 use Rattle.ix_receive.specs.Receiving.{AreReceived}
+use Rattle.ix_receive.specs.Keeping.{kept_of}
 use Rattle.ix_receive.specs.Reception.{Reception, reception_of}
 use Rattle.ix_own_archive.specs.declared.fault.ArchiveReason.{ArchiveReason}
 use Rattle.ix_own_archive.specs.declared.fault.ArchiveReason.TheVariants.{Header, OtherHeader, Memory}
@@ -118,6 +120,11 @@ pub record AreChecked (asked : Asked) (checked : List ℕ) (r : Reception) : Typ
 pub data AreParts (asked : Asked) (checked : List ℕ) (sections : ℕ) : Type 0 where
   no_part : checked ≡ [] → sections ≡ 0 → AreParts asked checked sections
   some_parts : (r : Reception) → AreChecked asked checked r → sections ≡ length r.sections → AreParts asked checked sections
+
+-- what is kept of the sections that are checked: their CIDs, and their blocks if these are DAG-CBOR
+pub data AreKeptOf (asked : Asked) (checked : List ℕ) (kept : Blocks) : Type 0 where
+  of_none : checked ≡ [] → kept ≡ [] → AreKeptOf asked checked kept
+  of_sections : (r : Reception) → AreChecked asked checked r → kept ≡ map kept_of r.sections → AreKeptOf asked checked kept
 
 -- a stream waits for the rest of its header, or for that of a section
 pub data IsWaiting (asked : Asked) (checked : List ℕ) (rest : List ℕ) (sections : ℕ) : Type 0 where

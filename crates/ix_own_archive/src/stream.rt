@@ -1,7 +1,7 @@
 //! The receiver of an archive as a stream.
 
 ghost use Rattle.std.specs.Prelude.{◌≡◌, false, length, drop, IfOk, IfErr, OnOk};
-ghost use Rattle.ix_own_archive.specs.Streaming.{nothing_taken, TakesOn, StopsAt, IsStoppedAt, IsWholeStream, taken_of, IsCutAt};
+ghost use Rattle.ix_own_archive.specs.Streaming.{nothing_taken, TakesOn, StopsAt, IsStoppedAt, IsWholeStream, taken_of, IsCutAt, AreKeptOf};
 
 use crate::stream_asked::{ExpectedHeader, StreamLimits};
 use crate::stream_bytes::StreamBytes;
@@ -10,6 +10,7 @@ use crate::stream_parts::{end_stream, take_piece};
 use crate::stream_request::StreamRequest;
 use ix_car::header_of;
 use ix_receive::{AllowMissing, Counts, Receiver};
+use ix_store::Store;
 use ix_walk::Job;
 use std::alloc::{AllocError, Global};
 use std::marker::Model;
@@ -144,25 +145,36 @@ impl<'s> StreamReceiver<'s> {
         ensures whole { IfOk result (IsWholeStream self.entry.asked (taken_of self.entry)) }
         ensures fault { IfErr result (λ e. IsCutAt self.entry e.place e.reason) }
     {
+        let (counts, _) = self.finish_kept();
+        counts
+    }
+
+    /// Ends the stream as `finish` does, and returns what is kept of the sections that are checked: the
+    /// blocks that are DAG-CBOR, and of every other section its CID, with no bytes. After an error of
+    /// `append` it isn't promised which sections that are.
+    pub fn finish_kept(self) -> (Result<Counts, StreamFault>, Store)
+        ensures going { OnOk result.0 (self.entry.ended ≡ false) }
+        ensures whole { IfOk result.0 (IsWholeStream self.entry.asked (taken_of self.entry)) }
+        ensures fault { IfErr result.0 (λ e. IsCutAt self.entry e.place e.reason) }
+        ensures kept { self.entry.ended ≡ false → AreKeptOf self.entry.asked self.entry.checked result.1 }
+    {
         let StreamReceiver {
             request,
-            receiver,
+            mut receiver,
             bytes,
             ended,
         } = self;
         let place = bytes.place();
         if ended {
-            return Err(StreamFault {
-                place,
-                reason: StreamReason::Ended,
-            });
+            let reason = StreamReason::Ended;
+            return (Err(StreamFault { place, reason }), receiver.into_kept());
         }
-        match end_stream(&request, receiver, &bytes) {
-            Ok(counts) => Ok(counts),
-            Err(reason) => Err(StreamFault {
-                place,
-                reason: StreamReason::Archive(reason),
-            }),
+        match end_stream(&request, &mut receiver, &bytes) {
+            Ok(counts) => (Ok(counts), receiver.into_kept()),
+            Err(reason) => {
+                let reason = StreamReason::Archive(reason);
+                (Err(StreamFault { place, reason }), receiver.into_kept())
+            }
         }
     }
 }

@@ -160,13 +160,14 @@ pub(crate) fn take_piece(
     }
 }
 
-// Ends a stream.
+// Ends a stream. A receiver keeps its sections.
 pub(crate) fn end_stream(
     request: &StreamRequest<'_>,
-    receiver: Receiver<'_>,
+    receiver: &mut Receiver<'_>,
     bytes: &StreamBytes,
 ) -> Result<Counts, ArchiveReason>
-    requires { IsKept (asked_of request.now) bytes.now receiver }
+    requires { IsKept (asked_of request.now) bytes.now receiver.old }
+    ensures sections { receiver.new.sections ≡ receiver.old.sections }
     ensures whole { IfOk result (IsWholeStream (asked_of request.now) (bytes.now.checked ++ bytes.now.rest)) }
     ensures cut { IfErr result (λ reason. IsStop (asked_of request.now)
         (bytes.now.checked ++ bytes.now.rest) (length bytes.now.checked) (Archive reason)) }
@@ -180,7 +181,7 @@ pub(crate) fn end_stream(
     if !rest.is_empty() {
         return Err(ArchiveReason::Section(CarKind::Truncated));
     }
-    match receiver.finish() {
+    match receiver.close() {
         Ok(counts) => Ok(counts),
         Err(fault) => Err(ArchiveReason::Unfinished(fault)),
     }
