@@ -170,13 +170,17 @@ class Selector:
 
     def links(self, node, rest):
         """The links of a node that are entered, in their order, with what is left at each."""
+        return [(key, left) for key, left, _ in self.links_at(node, rest, [])]
+
+    def links_at(self, node, rest, steps):
+        """The same, with the steps to each after these."""
         if isinstance(node, Link):
-            yield node.key, rest
+            yield node.key, rest, steps
             return
         children = enumerate(node) if isinstance(node, list) else entries_of(node) if isinstance(node, dict) else ()
         for step, child in children:
             if left := self.step(rest, step):
-                yield from self.links(child, left)
+                yield from self.links_at(child, left, [*steps, step])
 
 
 # The traversals.

@@ -29,19 +29,6 @@ PLAIN = "".join(chr(code) for code in range(33, 127) if chr(code) not in "%/,")
 SHOWN = 3
 
 
-class PathSelector(once.Selector):
-    """A selector that tells the links of a node with the steps to them."""
-
-    def links_at(self, node, rest, steps):
-        if isinstance(node, once.Link):
-            yield node.key, rest, steps
-            return
-        children = enumerate(node) if isinstance(node, list) else once.entries_of(node) if isinstance(node, dict) else ()
-        for step, child in children:
-            if left := self.step(rest, step):
-                yield from self.links_at(child, left, [*steps, step])
-
-
 def visits(graph, selector, roots, links_once, most):
     """The depth, the CID, the root and the steps from it of the first so many visits."""
     gone, found = set(), []
@@ -159,7 +146,7 @@ def main():
             random_steps.KEYS = KEYS
             graph, graph.keys = once.random_graph(chance)
             random_steps.KEYS = names
-            jobs = [(name, PathSelector(raw), roots, limit, line) for name, raw, roots, limit, line in random_jobs(chance, graph.keys)]
+            jobs = [(name, once.Selector(raw), roots, limit, line) for name, raw, roots, limit, line in random_jobs(chance, graph.keys)]
             try:
                 count += compare(pathlib.Path(room), graph, jobs, chance)
             except Wrong as wrong:

@@ -147,6 +147,8 @@ expect_text 'the jobs' "$of_a
 $of_b
 $of_c
 total jobs=3 done=3 skips=8" "$(grep -v '^c ' "$scratch/stdout")"
+run jobs "${inputs[@]}" --out out --paths --json
+expect_text 'the object of the second' "[$(with_path 2 missing "$abc_text" "$nested_text/l"),$(with_path 5 codec "$(text "$other_codec")" "$nested_text/in/0/x"),$(with_path 6 hash "$(text "$other_hash")" "$nested_text/in/1")]}" "$(sed -n '2s/.*"skips"://p' "$scratch/stdout")"
 run jobs "${inputs[@]}" --out out --paths --part 2/3
 expect 3 "$of_b
 total jobs=1 done=1 skips=3" ''
