@@ -89,6 +89,7 @@ fn missing_or(fault: ReceiveFault, section: Option<Cid>) -> Result<Option<Cid>, 
         ReceiveFault::Missing(cid) => Ok(Some(cid)),
         ReceiveFault::Memory => Err(AllocError),
         ReceiveFault::Unsound(_)
+        | ReceiveFault::InBase
         | ReceiveFault::Repeated
         | ReceiveFault::OutOfOrder
         | ReceiveFault::NotAskedFor

@@ -75,6 +75,7 @@ fn refused_at(
 fn word_of(alloc: Global, fault: &ReceiveFault) -> Result<String, AllocError> {
     let word = match fault {
         ReceiveFault::Unsound(verdict) => return format!(in alloc; "{verdict}"),
+        ReceiveFault::InBase => "known",
         ReceiveFault::Repeated => "repeated",
         ReceiveFault::OutOfOrder => "order",
         ReceiveFault::NotAskedFor => "surplus",

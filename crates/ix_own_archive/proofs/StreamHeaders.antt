@@ -14,13 +14,14 @@ use Rattle.ix_car.specs.declared.fault.CarKind.TheVariants as kinds
 use Rattle.ix_car.specs.Gives.{FailsAs}
 use Rattle.ix_car.specs.Reading.{Fault, ◌>>=◌, text_at, header_at, header_fault, behind_header}
 use Rattle.ix_car.specs.Writing.{with_length, header_data, header_of}
-use Rattle.ix_receive.specs.Reception.{Reception, nothing_received}
+use Rattle.ix_receive.specs.Reception.{Reception, nothing_received_with}
+use Rattle.ix_receive.proofs.Received.{none-at-first}
 use Rattle.ix_own_archive.specs.declared.fault.ArchiveReason.{ArchiveReason}
 use Rattle.ix_own_archive.specs.declared.fault.ArchiveReason.TheVariants.{Header, OtherHeader, Section, Refused, Unfinished, Memory}
 use Rattle.ix_own_archive.specs.declared.stream_asked.ExpectedHeader.{ExpectedHeader}
 use Rattle.ix_own_archive.specs.declared.stream_asked.ExpectedHeader.TheVariants.{OfJob, Any}
 use Rattle.ix_own_archive.specs.declared.stream_fault.StreamReason.TheVariants.{Archive, HeaderLength}
-use Rattle.ix_own_archive.specs.Checking.{LacksHeader, IsHeaderReason, IsRightlyNot}
+use Rattle.ix_own_archive.specs.Checking.{LacksHeader, IsHeaderReason, IsRightlyNotWith}
 use Rattle.ix_own_archive.specs.Fronts.{is_whole}
 use Rattle.ix_own_archive.specs.Streaming.{Asked, IsExpected, no_part, IsArchiveOf, IsStreamFault, IsRightlyNoStream, IsStop}
 use Rattle.ix_own_archive.specs.Taking.{TakenBytes, IsHeaderAt, IsHeaderWrong, CantBeRead, StaysWrong, HasChecked, StopsHere}
@@ -95,10 +96,10 @@ unread-fault asked stream Memory found = tt
 wrong-stop : (asked : Asked) (h : ExpectedHeader) → asked.header ≡ h → (stream : List ℕ) (reason : ArchiveReason) → IsHeaderWrong h asked.job stream reason
     → IsStreamFault h asked stream 0 reason × IsRightlyNoStream asked stream reason
 wrong-stop asked OfJob is stream reason wrong = (
-  header-fault asked.job asked.allowed stream reason wrong.0 wrong.1,
+  header-fault asked.base asked.job asked.allowed stream reason wrong.0 wrong.1,
   λ archive of small.
       let same = subst (λ (h : ExpectedHeader). IsArchiveOf h asked.job stream archive) is of in
-      subst (λ (l : List ℕ). IsRightlyNot asked.job l reason) (sym same) (header-not asked.job stream reason wrong.0 wrong.1),
+      subst (λ (l : List ℕ). IsRightlyNotWith asked.base asked.job l reason) (sym same) (header-not asked.base asked.job stream reason wrong.0 wrong.1),
 )
 wrong-stop asked Any is stream reason wrong = (unread-fault asked stream reason wrong, unread-stop asked is stream reason wrong)
 
@@ -207,12 +208,12 @@ any-header asked b rest n any fits small whole read size =
     }
 
 -- the header is checked, and no section
-pub header-checked : (asked : Asked) (old new : TakenBytes) (r : Reception) (n : ℕ) → old.checked ≡ [] → old.parts ≡ 0 → r ≡ nothing_received asked.job asked.allowed → IsHeaderAt asked old.rest n
+pub header-checked : (asked : Asked) (old new : TakenBytes) (r : Reception) (n : ℕ) → old.checked ≡ [] → old.parts ≡ 0 → r ≡ nothing_received_with asked.base asked.job asked.allowed → IsHeaderAt asked old.rest n
     → new ≡ record { checked = old.checked ++ take n old.rest; rest = drop n old.rest; released = old.released; parts = old.parts + 1 } → HasChecked asked new r
 header-checked asked old new r n none first is at same =
     let front = front-taken n old.rest at.header at.rest at.bytes (omega (arith, at.size, ap length at.bytes, length-append at.header at.rest)) in
     subst (HasChecked asked new) (sym is)
-    (subst (λ (b : TakenBytes). HasChecked asked b (nothing_received asked.job asked.allowed)) (sym same)
+    (subst (λ (b : TakenBytes). HasChecked asked b (nothing_received_with asked.base asked.job asked.allowed)) (sym same)
     (record {
       parts = omega (arith, first);
       bytes = record {
@@ -223,7 +224,7 @@ header-checked asked old new r n none first is at same =
         short = at.short;
         bytes = ap (λ (l : List ℕ). l ++ take n old.rest) none ∙ front.0 ∙ sym (append-nil at.header);
         same = refl;
-        received = record { sound = tt; visited = refl };
+        received = none-at-first asked.base asked.job;
         cids = tt;
         within = tt;
       };

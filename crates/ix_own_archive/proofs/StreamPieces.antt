@@ -10,14 +10,14 @@ use Rattle.ix_receive.specs.declared.fault.ReceiveFault.{ReceiveFault}
 use Rattle.ix_receive.specs.Keeping.{kept_of}
 use Rattle.ix_receive.specs.Own.{archive_bytes}
 use Rattle.ix_receive.specs.Receiving.{OwnAreReceived}
-use Rattle.ix_receive.specs.Reception.{Reception, nothing_received, IsWhole, IsUnfinished}
+use Rattle.ix_receive.specs.Reception.{Reception, nothing_received_with, IsWhole, IsUnfinished}
 use Rattle.ix_own_archive.specs.declared.fault.ArchiveReason.{ArchiveReason}
 use Rattle.ix_own_archive.specs.declared.fault.ArchiveReason.TheVariants.{Header, Section, Unfinished, Memory}
 use Rattle.ix_own_archive.specs.declared.stream_asked.ExpectedHeader.{ExpectedHeader}
 use Rattle.ix_own_archive.specs.declared.stream_asked.ExpectedHeader.TheVariants.{OfJob, Any}
 use Rattle.ix_own_archive.specs.declared.stream_fault.StreamReason.{StreamReason}
 use Rattle.ix_own_archive.specs.declared.stream_fault.StreamReason.TheVariants.{Archive, HeaderLength, SectionLength, Ended}
-use Rattle.ix_own_archive.specs.Checking.{IsReceivedUpTo, IsRightlyNot}
+use Rattle.ix_own_archive.specs.Checking.{IsReceivedUpTo, IsRightlyNotWith}
 use Rattle.ix_own_archive.specs.Fronts.{is_whole}
 use Rattle.ix_own_archive.specs.Streaming.{Asked, Stream, AreChecked, AreParts, no_part, some_parts, IsWaiting, for_header, for_section, TakesOn, StopsAt, IsStreamFault, IsStop, IsStoppedAt, IsWholeStream, taken_of, IsCutAt, AreKeptOf, of_none, of_sections}
 use Rattle.ix_own_archive.specs.Taking.{TakenBytes, with_piece, all_released, MovesOn, HasChecked, IsKept, before, within, IsHeld, IsHeadTaken, StopsHere, TakesPiece, StopsAtPiece, stream_of}
@@ -43,7 +43,7 @@ kept-within asked b r some (within has cut) = (has, cut)
 -- before the header
 pub record IsKeptBefore (asked : Asked) (b : TakenBytes) (r : Reception) : Type 0 where
   pub none : b.checked ≡ []
-  pub at : r ≡ nothing_received asked.job asked.allowed
+  pub at : r ≡ nothing_received_with asked.base asked.job asked.allowed
   pub cut : is_whole asked.limits.header b.rest ≡ Ok false
 
 pub kept-before : (asked : Asked) (b : TakenBytes) (r : Reception) → b.parts ≡ 0 → IsKept asked b r → IsKeptBefore asked b r
@@ -188,7 +188,7 @@ end-before asked b r rest is small first kept =
     header-cut-off asked b.checked b.rest k.none (omega (arith, small, ap length is)) k.cut
 
 -- inside a section
-pub end-within : (asked : Asked) (b : TakenBytes) (r : Reception) → OwnAreReceived → AllByRecursion IsCid asked.job.roots → 0 < length b.rest → 0 < b.parts → IsKept asked b r
+pub end-within : (asked : Asked) (b : TakenBytes) (r : Reception) → OwnAreReceived asked.base → AllByRecursion IsCid asked.job.roots → 0 < length b.rest → 0 < b.parts → IsKept asked b r
     → IsStop asked (b.checked ++ b.rest) (length b.checked) (Archive (Section kinds.Truncated))
 end-within asked b r each roots some parts kept =
     let k = kept-within asked b r parts kept in
@@ -196,19 +196,19 @@ end-within asked b r each roots some parts kept =
 
 module _ (asked : Asked) (checked rest : List ℕ) (r : Reception) (are : AreChecked asked checked r) (none : rest ≡ []) where
   -- all was received
-  pub all-received : IsReceivedUpTo asked.job asked.allowed (archive_bytes asked.job.roots r.sections ++ rest) [] r
-  all-received = subst (λ (l : List ℕ). IsReceivedUpTo asked.job asked.allowed (archive_bytes asked.job.roots r.sections ++ rest) l r) none ((so-far asked checked r are rest).up)
+  pub all-received : IsReceivedUpTo asked.base asked.job asked.allowed (archive_bytes asked.job.roots r.sections ++ rest) [] r
+  all-received = subst (λ (l : List ℕ). IsReceivedUpTo asked.base asked.job asked.allowed (archive_bytes asked.job.roots r.sections ++ rest) l r) none ((so-far asked checked r are rest).up)
 
   pub whole-stream : (counts : Counts) → IsWhole r counts → IsWholeStream asked (checked ++ rest) counts
   whole-stream counts whole = record {
     archive = archive_bytes asked.job.roots r.sections ++ rest;
     is = is-archive asked checked r are rest;
-    own = is-own asked.job asked.allowed (archive_bytes asked.job.roots r.sections ++ rest) rest r counts ((so-far asked checked r are rest).up) none whole;
+    own = is-own asked.base asked.job asked.allowed (archive_bytes asked.job.roots r.sections ++ rest) rest r counts ((so-far asked checked r are rest).up) none whole;
     accepted = record { last = r; all = all-received; whole = whole };
   }
 
   -- and the end is refused
-  pub unfinished-stream : (fault : ReceiveFault) → OwnAreReceived → AllByRecursion IsCid asked.job.roots → IsUnfinished r fault → IsStop asked (checked ++ rest) (length checked) (Archive (Unfinished fault))
+  pub unfinished-stream : (fault : ReceiveFault) → OwnAreReceived asked.base → AllByRecursion IsCid asked.job.roots → IsUnfinished r fault → IsStop asked (checked ++ rest) (length checked) (Archive (Unfinished fault))
   unfinished-stream fault each roots found =
       let a = archive_bytes asked.job.roots r.sections in
       let size : length a ≡ length (a ++ rest) = omega (arith, ap length none, length-append a rest) in (
@@ -216,6 +216,6 @@ module _ (asked : Asked) (checked rest : List ℕ) (r : Reception) (are : AreChe
         λ archive of small.
             let same = is-only asked checked r are rest archive of in
             let short : length (a ++ rest) < 2 ^ 63 = subst (λ (l : List ℕ). length l < 2 ^ 63) same small in
-            subst (λ (l : List ℕ). IsRightlyNot asked.job l (Unfinished fault)) (sym same)
-            (end-not asked.job asked.allowed (a ++ rest) each roots short rest r fault (so-far asked checked r are rest) none found),
+            subst (λ (l : List ℕ). IsRightlyNotWith asked.base asked.job l (Unfinished fault)) (sym same)
+            (end-not asked.base asked.job asked.allowed (a ++ rest) each roots short rest r fault (so-far asked checked r are rest) none found),
       )

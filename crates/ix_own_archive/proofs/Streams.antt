@@ -18,7 +18,7 @@ use Rattle.ix_own_archive.specs.declared.stream_asked.ExpectedHeader.{ExpectedHe
 use Rattle.ix_own_archive.specs.declared.stream_asked.ExpectedHeader.TheVariants.{OfJob, Any}
 use Rattle.ix_own_archive.specs.declared.stream_fault.StreamReason.{StreamReason}
 use Rattle.ix_own_archive.specs.declared.stream_fault.StreamReason.TheVariants.{Archive, HeaderLength, SectionLength, Ended}
-use Rattle.ix_own_archive.specs.Checking.{IsSectionReason, IsFaultAt, IsRightlyNot}
+use Rattle.ix_own_archive.specs.Checking.{IsSectionReason, IsFaultAtWith, IsRightlyNotWith}
 use Rattle.ix_own_archive.specs.Fronts.{is_whole}
 use Rattle.ix_own_archive.specs.Streaming.{Asked, IsExpected, AreChecked, some_parts, IsArchiveOf, IsFaultIn, IsStreamFault, IsAbove, IsStop}
 use Rattle.ix_own_archive.specs.Taking.{TakenBytes, HasChecked, HasTaken, MovesOn, IsNotNext, StopsHere}
@@ -91,7 +91,7 @@ module _ (asked : Asked) (checked : List ℕ) (r : Reception) (are : AreChecked 
   abbrev jobs_archive : List ℕ → List ℕ
   jobs_archive rest = archive_bytes asked.job.roots r.sections ++ rest
 
-  pub so-far : (rest : List ℕ) → IsSoFar asked.job asked.allowed (jobs_archive rest) rest r
+  pub so-far : (rest : List ℕ) → IsSoFar asked.base asked.job asked.allowed (jobs_archive rest) rest r
   so-far rest = record { up = record { bytes = refl; same = are.same; received = are.received }; cids = are.cids }
 
   pub is-archive : (rest : List ℕ) → IsArchiveOf asked.header asked.job (checked ++ rest) (jobs_archive rest)
@@ -105,7 +105,7 @@ module _ (asked : Asked) (checked : List ℕ) (r : Reception) (are : AreChecked 
   jobs-checked jobs = are.bytes ∙ ap (λ (l : List ℕ). l ++ texts_of r.sections) (subst (λ (h : ExpectedHeader). IsExpected h asked.job are.header) jobs are.expected)
 
   -- a fault of the section after what was received
-  section-fault : (rest : List ℕ) (reason : ArchiveReason) → IsSectionReason r rest reason → IsFaultAt asked.job asked.allowed (jobs_archive rest) (length (archive_bytes asked.job.roots r.sections)) reason
+  section-fault : (rest : List ℕ) (reason : ArchiveReason) → IsSectionReason r rest reason → IsFaultAtWith asked.base asked.job asked.allowed (jobs_archive rest) (length (archive_bytes asked.job.roots r.sections)) reason
   section-fault rest (Header kind) found = absurd found
   section-fault rest OtherHeader found = absurd found
   section-fault rest (Section kind) found = record { last = r; rest = rest; before = (so-far rest).up; offset = omega (arith, length-append (archive_bytes asked.job.roots r.sections) rest); found = found }
@@ -114,7 +114,7 @@ module _ (asked : Asked) (checked : List ℕ) (r : Reception) (are : AreChecked 
   section-fault rest Memory found = tt
 
   -- a fault of the archive at the end of what was received is one of the stream
-  fault-in : (rest : List ℕ) (reason : ArchiveReason) → IsFaultAt asked.job asked.allowed (jobs_archive rest) (length (archive_bytes asked.job.roots r.sections)) reason → IsFaultIn asked (checked ++ rest) (length checked) reason
+  fault-in : (rest : List ℕ) (reason : ArchiveReason) → IsFaultAtWith asked.base asked.job asked.allowed (jobs_archive rest) (length (archive_bytes asked.job.roots r.sections)) reason → IsFaultIn asked (checked ++ rest) (length checked) reason
   fault-in rest reason found = record {
     archive = jobs_archive rest;
     is = is-archive rest;
@@ -123,12 +123,12 @@ module _ (asked : Asked) (checked : List ℕ) (r : Reception) (are : AreChecked 
     found = found;
   }
 
-  fault-of_jobs : asked.header ≡ OfJob → (rest : List ℕ) (reason : ArchiveReason) → IsFaultAt asked.job asked.allowed (jobs_archive rest) (length (archive_bytes asked.job.roots r.sections)) reason → IsFaultAt asked.job asked.allowed (checked ++ rest) (length checked) reason
-  fault-of_jobs jobs rest reason found = subst (λ (l : List ℕ). IsFaultAt asked.job asked.allowed (l ++ rest) (length l) reason) (sym (jobs-checked jobs)) found
+  fault-of_jobs : asked.header ≡ OfJob → (rest : List ℕ) (reason : ArchiveReason) → IsFaultAtWith asked.base asked.job asked.allowed (jobs_archive rest) (length (archive_bytes asked.job.roots r.sections)) reason → IsFaultAtWith asked.base asked.job asked.allowed (checked ++ rest) (length checked) reason
+  fault-of_jobs jobs rest reason found = subst (λ (l : List ℕ). IsFaultAtWith asked.base asked.job asked.allowed (l ++ rest) (length l) reason) (sym (jobs-checked jobs)) found
 
   -- of a section or the end
   pub stream-fault : (h : ExpectedHeader) → asked.header ≡ h → (rest : List ℕ) (reason : ArchiveReason) → IsLate reason
-      → IsFaultAt asked.job asked.allowed (jobs_archive rest) (length (archive_bytes asked.job.roots r.sections)) reason → IsStreamFault h asked (checked ++ rest) (length checked) reason
+      → IsFaultAtWith asked.base asked.job asked.allowed (jobs_archive rest) (length (archive_bytes asked.job.roots r.sections)) reason → IsStreamFault h asked (checked ++ rest) (length checked) reason
   stream-fault OfJob is rest reason late found = fault-of_jobs is rest reason found
   stream-fault Any is rest (Header kind) late found = absurd late
   stream-fault Any is rest OtherHeader late found = absurd late
@@ -137,7 +137,7 @@ module _ (asked : Asked) (checked : List ℕ) (r : Reception) (are : AreChecked 
   stream-fault Any is rest (Unfinished fault) late found = fault-in rest (Unfinished fault) found
   stream-fault Any is rest Memory late found = tt
 
-  module _ (each : OwnAreReceived) (roots : AllByRecursion IsCid asked.job.roots) where
+  module _ (each : OwnAreReceived asked.base) (roots : AllByRecursion IsCid asked.job.roots) where
     -- where a section isn't received, the stream stops
     pub section-stop : (rest : List ℕ) (reason : ArchiveReason) → 0 < length rest → IsSectionReason r rest reason → IsStop asked (checked ++ rest) (length checked) (Archive reason)
     section-stop rest reason some found = (
@@ -145,7 +145,7 @@ module _ (asked : Asked) (checked : List ℕ) (r : Reception) (are : AreChecked 
       λ archive of small.
           let same = is-only rest archive of in
           let short : length (jobs_archive rest) < 2 ^ 63 = subst (λ (l : List ℕ). length l < 2 ^ 63) same small in
-          subst (λ (l : List ℕ). IsRightlyNot asked.job l reason) (sym same) (section-not asked.job asked.allowed (jobs_archive rest) each roots short rest r reason (so-far rest) some found),
+          subst (λ (l : List ℕ). IsRightlyNotWith asked.base asked.job l reason) (sym same) (section-not asked.base asked.job asked.allowed (jobs_archive rest) each roots short rest r reason (so-far rest) some found),
     )
 
     -- whatever follows
@@ -167,7 +167,7 @@ module _ (asked : Asked) (checked : List ℕ) (r : Reception) (are : AreChecked 
     not-next limit rest more Ended is found = absurd found
 
 -- a section that isn't next stops the stream
-pub stops-here : (asked : Asked) (b : TakenBytes) (r : Reception) (reason : StreamReason) → OwnAreReceived → AllByRecursion IsCid asked.job.roots → HasChecked asked b r → IsNotNext asked.limits.section b.rest r reason → StopsHere asked b reason
+pub stops-here : (asked : Asked) (b : TakenBytes) (r : Reception) (reason : StreamReason) → OwnAreReceived asked.base → AllByRecursion IsCid asked.job.roots → HasChecked asked b r → IsNotNext asked.limits.section b.rest r reason → StopsHere asked b reason
 stops-here asked b r reason each roots has found = record { parts = some_parts r has.bytes (omega (arith, has.parts)); stop = λ more. not-next asked b.checked r has.bytes each roots asked.limits.section b.rest more reason refl found }
 
 -- ---- a section that is received
@@ -181,7 +181,7 @@ front-taken n b text rest is size =
 -- the header and the sections with one more
 one-checked : (asked : Asked) (checked rest : List ℕ) (n : ℕ) (old new : Reception) → AreChecked asked checked old → HasTaken asked.limits.section rest old new n → AreChecked asked (checked ++ take n rest) new
 one-checked asked checked rest n old new are has =
-    let far = one-more-so-far asked.job asked.allowed (archive_bytes asked.job.roots old.sections ++ rest) rest has.rest old new (so-far asked checked old are rest) has.received in
+    let far = one-more-so-far asked.base asked.job asked.allowed (archive_bytes asked.job.roots old.sections ++ rest) rest has.rest old new (so-far asked checked old are rest) has.received in
     let p = has.received.section in
     let text = section_with p.0 (Some p.1) in
     let taken = front-taken n rest text has.rest has.received.written has.size in

@@ -13,7 +13,7 @@ use Rattle.ix_walk.specs.JobMeaning.{JobMeaning}
 use Rattle.ix_archive.specs.Laws.{once}
 use Rattle.ix_car.specs.Writing.{header_of}
 use Rattle.ix_car.specs.Reading.{Fault, section_at}
-use Rattle.ix_receive.specs.Own.{archive_bytes, AreTheirOwn, IsItsOwn}
+use Rattle.ix_receive.specs.Own.{archive_bytes, AreTheirOwnWith, IsItsOwnWith}
 use Rattle.ix_receive.specs.Receiving.{OwnAreReceived}
 use Rattle.ix_verify.proofs.TextsAgain.{section_again}
 use Rattle.ix_verify.proofs.PairsAgain.{HasCid, text_of}
@@ -68,35 +68,35 @@ behind (p ∷ ps) (q ∷ qs) rest ps_are all_are small same =
     one-behind p q ps qs rest one.pair (behind ps qs rest ps_are.1 all_are.1 fewer one.rest)
 
 -- what is left of an archive that is its own, of which sections were received
-pub record IsOwnBehind (number : ℕ) (job : JobMeaning) (received : Blocks) (rest : List ℕ) : Type 0 where
+pub record IsOwnBehind (base : Blocks) (number : ℕ) (job : JobMeaning) (received : Blocks) (rest : List ℕ) : Type 0 where
   pub after : Blocks
-  pub own : AreTheirOwn number (once job) (received ++ after)
+  pub own : AreTheirOwnWith base number (once job) (received ++ after)
   pub left : rest ≡ texts_of after
   pub cids : AllByRecursion HasCid after
 
-own-behind : (number : ℕ) (job : JobMeaning) (received all : Blocks) (rest : List ℕ) → OwnAreReceived → AllByRecursion IsCid job.roots
-    → AreTheirOwn number (once job) all → AreBehind received all rest → IsOwnBehind number job received rest
-own-behind number job received all rest each roots own b =
-    let there = subst (AreTheirOwn number (once job)) b.whole own in
-    record { after = b.after; own = there; left = b.left; cids = own-cids number job received b.after each roots there }
+own-behind : (base : Blocks) (number : ℕ) (job : JobMeaning) (received all : Blocks) (rest : List ℕ) → OwnAreReceived base → AllByRecursion IsCid job.roots
+    → AreTheirOwnWith base number (once job) all → AreBehind received all rest → IsOwnBehind base number job received rest
+own-behind base number job received all rest each roots own b =
+    let there = subst (AreTheirOwnWith base number (once job)) b.whole own in
+    record { after = b.after; own = there; left = b.left; cids = own-cids base number job received b.after each roots there }
 
 -- the sections of an own archive begin with those that were received
-pub own-left : (number : ℕ) (job : JobMeaning) (archive rest : List ℕ) (received : Blocks) → OwnAreReceived → AllByRecursion IsCid job.roots → length archive < 2 ^ 63
-    → archive ≡ archive_bytes job.roots received ++ rest → AllByRecursion HasCid received → IsItsOwn number (once job) archive → IsOwnBehind number job received rest
-own-left number job archive rest received each roots small up cids own =
+pub own-left : (base : Blocks) (number : ℕ) (job : JobMeaning) (archive rest : List ℕ) (received : Blocks) → OwnAreReceived base → AllByRecursion IsCid job.roots → length archive < 2 ^ 63
+    → archive ≡ archive_bytes job.roots received ++ rest → AllByRecursion HasCid received → IsItsOwnWith base number (once job) archive → IsOwnBehind base number job received rest
+own-left base number job archive rest received each roots small up cids own =
     let h = header_of job.roots in
     let n = length h in
     let all = own.0 in
     let same : h ++ (texts_of received ++ rest) ≡ h ++ texts_of all = sym (append_assoc h (texts_of received) rest) ∙ sym up ∙ own.1 in
     let texts : texts_of received ++ rest ≡ texts_of all = sym (drop-append_seam h (texts_of received ++ rest)) ∙ ap (drop n) same ∙ drop-append_seam h (texts_of all) in
     let fewer : length (texts_of all) < 2 ^ 63 = omega (arith, small, ap length own.1, length-append h (texts_of all)) in
-    own-behind number job received all rest each roots own.2 (behind received all rest cids (own-cids number job [] all each roots own.2) fewer texts)
+    own-behind base number job received all rest each roots own.2 (behind received all rest cids (own-cids base number job [] all each roots own.2) fewer texts)
 
 -- ---- what may be at the front of what is left
 
 -- there is a section, if anything is left
-pub left-read : (number : ℕ) (job : JobMeaning) (received : Blocks) (rest : List ℕ) (f : Fault) → length rest < 2 ^ 63 → 0 < length rest → IsOwnBehind number job received rest → section_at rest ≡ Err f → ⊥
-left-read number job received rest f small some b h = on_after b.after b.left b.cids where
+pub left-read : (base : Blocks) (number : ℕ) (job : JobMeaning) (received : Blocks) (rest : List ℕ) (f : Fault) → length rest < 2 ^ 63 → 0 < length rest → IsOwnBehind base number job received rest → section_at rest ≡ Err f → ⊥
+left-read base number job received rest f small some b h = on_after b.after b.left b.cids where
   on_after : (after : Blocks) → rest ≡ texts_of after → AllByRecursion HasCid after → ⊥
   on_after [] left cids = omega (arith, ap length left)
   on_after (q ∷ qs) left cids =
@@ -107,19 +107,19 @@ left-read number job received rest f small some b h = on_after b.after b.left b.
       absurd (cc (sym h ∙ ap section_at left ∙ section_again q.0 q.1 (texts_of qs) cids.0 short))
 
 -- if a section is, it is the next one
-pub left-next : (number : ℕ) (job : JobMeaning) (received : Blocks) (rest more : List ℕ) (p : List ℕ × List ℕ) → length rest < 2 ^ 63 → rest ≡ text_of p ++ more → HasCid p
-    → IsOwnBehind number job received rest → (after : Blocks) × AreTheirOwn number (once job) (received ++ p ∷ after)
-left-next number job received rest more p small is cid b = on_after b.after b.left b.cids b.own where
-  on_after : (after : Blocks) → rest ≡ texts_of after → AllByRecursion HasCid after → AreTheirOwn number (once job) (received ++ after) → (others : Blocks) × AreTheirOwn number (once job) (received ++ p ∷ others)
+pub left-next : (base : Blocks) (number : ℕ) (job : JobMeaning) (received : Blocks) (rest more : List ℕ) (p : List ℕ × List ℕ) → length rest < 2 ^ 63 → rest ≡ text_of p ++ more → HasCid p
+    → IsOwnBehind base number job received rest → (after : Blocks) × AreTheirOwnWith base number (once job) (received ++ p ∷ after)
+left-next base number job received rest more p small is cid b = on_after b.after b.left b.cids b.own where
+  on_after : (after : Blocks) → rest ≡ texts_of after → AllByRecursion HasCid after → AreTheirOwnWith base number (once job) (received ++ after) → (others : Blocks) × AreTheirOwnWith base number (once job) (received ++ p ∷ others)
   on_after [] left cids own = absurd (some-section p more (sym is ∙ left))
   on_after (q ∷ qs) left cids own =
       let size : length (text_of q ++ texts_of qs) < 2 ^ 63 = subst (λ (l : List ℕ). length l < 2 ^ 63) left small in
       let one = same-section p q more (texts_of qs) cid cids.0 size (sym is ∙ left) in
-      (qs, subst (λ (r : List ℕ × List ℕ). AreTheirOwn number (once job) (received ++ r ∷ qs)) (sym one.pair) own)
+      (qs, subst (λ (r : List ℕ × List ℕ). AreTheirOwnWith base number (once job) (received ++ r ∷ qs)) (sym one.pair) own)
 
 -- at the end none is left
-pub left-none : (number : ℕ) (job : JobMeaning) (received : Blocks) (rest : List ℕ) → rest ≡ [] → IsOwnBehind number job received rest → AreTheirOwn number (once job) received
-left-none number job received rest none b = on_after b.after b.left b.own where
-  on_after : (after : Blocks) → rest ≡ texts_of after → AreTheirOwn number (once job) (received ++ after) → AreTheirOwn number (once job) received
-  on_after [] left own = subst (AreTheirOwn number (once job)) (append-nil received) own
+pub left-none : (base : Blocks) (number : ℕ) (job : JobMeaning) (received : Blocks) (rest : List ℕ) → rest ≡ [] → IsOwnBehind base number job received rest → AreTheirOwnWith base number (once job) received
+left-none base number job received rest none b = on_after b.after b.left b.own where
+  on_after : (after : Blocks) → rest ≡ texts_of after → AreTheirOwnWith base number (once job) (received ++ after) → AreTheirOwnWith base number (once job) received
+  on_after [] left own = subst (AreTheirOwnWith base number (once job)) (append-nil received) own
   on_after (q ∷ qs) left own = absurd (some-section q (texts_of qs) (sym left ∙ none))

@@ -15,7 +15,7 @@ use Rattle.ix_walk.specs.Arrivals.{Arrival, Crossing, behind, arrivals_below, ar
 use Rattle.ix_walk.specs.Once as walks
 use Rattle.ix_walk.proofs.Links.{all-append, all-right}
 use Rattle.ix_archive.specs.Laws.{once}
-use Rattle.ix_receive.specs.Own.{AreTheirOwn}
+use Rattle.ix_receive.specs.Own.{AreTheirOwnWith}
 use Rattle.ix_receive.specs.Receiving.{first_visits, IsNextSection, OwnAreReceived}
 use Rattle.ix_verify.proofs.PairsAgain.{HasCid}
 use Rattle.ix_own_archive.proofs.LinksRead.{HasCids, HaveCids, ValuesHaveCids, data-cids}
@@ -100,16 +100,16 @@ first-cids : (n : ℕ) (job : JobMeaning) (sections : Blocks) → AllByRecursion
 first-cids n job sections h = visits-cids sections (is_entered job.selector) (residual_at job.selector) n [] (walks.roots_from 0 job.roots) (roots-cids 0 job.roots h)
 
 -- the next section is of a CID
-next-cid : (n : ℕ) (job : JobMeaning) (sections : Blocks) (p : List ℕ × List ℕ) → AllByRecursion IsCid job.roots → IsNextSection n job sections p → HasCid p
-next-cid n job sections p roots next =
-    let all = subst (AllByRecursion VisitsCid) next.next (first-cids (suc n) job sections roots) in
-    subst IsCid next.named (all-right VisitsCid (first_visits n job sections) (next.visit ∷ []) all).0
+next-cid : (base : Blocks) (n : ℕ) (job : JobMeaning) (sections : Blocks) (p : List ℕ × List ℕ) → AllByRecursion IsCid job.roots → IsNextSection base n job sections p → HasCid p
+next-cid base n job sections p roots next =
+    let all = subst (AllByRecursion VisitsCid) next.next (first-cids (suc n) job (base ++ sections) roots) in
+    subst IsCid next.named (all-right VisitsCid (first_visits n job (base ++ sections)) (next.visit ∷ []) all).0
 
 -- the sections of an own archive are of CIDs
-pub own-cids : (number : ℕ) (job : JobMeaning) (before after : Blocks) → OwnAreReceived → AllByRecursion IsCid job.roots → AreTheirOwn number (once job) (before ++ after) → AllByRecursion HasCid after
-own-cids number job before [] each roots own = tt
-own-cids number job before (p ∷ after) each roots own =
+pub own-cids : (base : Blocks) (number : ℕ) (job : JobMeaning) (before after : Blocks) → OwnAreReceived base → AllByRecursion IsCid job.roots → AreTheirOwnWith base number (once job) (before ++ after) → AllByRecursion HasCid after
+own-cids base number job before [] each roots own = tt
+own-cids base number job before (p ∷ after) each roots own =
     let step = each number job before after p own in (
-      next-cid step.0 job before p roots step.3,
-      own-cids number job (before ++ p ∷ []) after each roots (subst (AreTheirOwn number (once job)) (sym (append_assoc before (p ∷ []) after)) own),
+      next-cid base step.0 job before p roots step.3,
+      own-cids base number job (before ++ p ∷ []) after each roots (subst (AreTheirOwnWith base number (once job)) (sym (append_assoc before (p ∷ []) after)) own),
     )

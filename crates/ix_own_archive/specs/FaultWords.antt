@@ -15,6 +15,7 @@ use Rattle.ix_own_archive.specs.declared.stream_fault.StreamFault.{StreamFault}
 -- the words for a receiver's fault, in ASCII
 abbrev pub refusal_words : ReceiveFault → List ℕ
 refusal_words (received.Unsound v) = verdict_word v
+refusal_words received.InBase = codes "in the base"
 refusal_words received.Repeated = codes "repeated"
 refusal_words received.OutOfOrder = codes "out of order"
 refusal_words received.NotAskedFor = codes "not asked for"

@@ -12,9 +12,10 @@ use Rattle.ix_car.specs.Reading.{header_at}
 use Rattle.ix_car.specs.Writing.{with_length, header_of, section_with}
 use Rattle.ix_receive.specs.declared.allow_missing.AllowMissing.{AllowMissing}
 use Rattle.ix_receive.specs.declared.counts.Counts.{Counts}
+use Rattle.ix_store.specs.Store.{Blocks}
 use Rattle.ix_receive.specs.Receiving.{AreReceived}
 use Rattle.ix_receive.specs.Keeping.{kept_of}
-use Rattle.ix_receive.specs.Reception.{Reception, reception_of}
+use Rattle.ix_receive.specs.Reception.{Reception, reception_with, coded_blocks}
 use Rattle.ix_own_archive.specs.declared.fault.ArchiveReason.{ArchiveReason}
 use Rattle.ix_own_archive.specs.declared.fault.ArchiveReason.TheVariants.{Header, OtherHeader, Memory}
 use Rattle.ix_own_archive.specs.declared.stream_asked.ExpectedHeader.{ExpectedHeader}
@@ -22,11 +23,13 @@ use Rattle.ix_own_archive.specs.declared.stream_asked.ExpectedHeader.TheVariants
 use Rattle.ix_own_archive.specs.declared.stream_asked.StreamLimits.{StreamLimits}
 use Rattle.ix_own_archive.specs.declared.stream_fault.StreamReason.{StreamReason}
 use Rattle.ix_own_archive.specs.declared.stream_fault.StreamReason.TheVariants.{Archive, HeaderLength, SectionLength, Ended}
-use Rattle.ix_own_archive.specs.Checking.{IsAccepted, IsJobsOwn, IsFaultAt, IsRightlyNot}
+use Rattle.ix_own_archive.specs.Checking.{IsAcceptedWith, IsJobsOwnWith, IsFaultAtWith, IsRightlyNotWith}
 use Rattle.ix_own_archive.specs.Fronts.{is_whole}
 
--- what is asked of a stream: the archive of a job, which blocks may be missing, the header that is expected, and the limits
+-- what is asked of a stream: the archive of a job without what a base has, which blocks may be missing, the header that is expected,
+-- and the limits
 pub record Asked : Type 0 where
+  pub base : Blocks
   pub job : JobMeaning
   pub allowed : AllowMissing
   pub header : ExpectedHeader
@@ -58,7 +61,7 @@ header_by-bit Any = refl
 
 -- a stream is stored as its parts, and is the same when they are put together again
 pub stream_back : (s : Stream) → (let back : Stream = record {
-  asked = record { job = s.asked.job; allowed = record { raw = s.asked.allowed.raw; dag_cbor = s.asked.allowed.dag_cbor }; header = header_by (header_bit s.asked.header); limits = record { header = s.asked.limits.header; section = s.asked.limits.section } };
+  asked = record { base = s.asked.base; job = s.asked.job; allowed = record { raw = s.asked.allowed.raw; dag_cbor = s.asked.allowed.dag_cbor }; header = header_by (header_bit s.asked.header); limits = record { header = s.asked.limits.header; section = s.asked.limits.section } };
   checked = s.checked;
   rest = s.rest;
   released = s.released;
@@ -67,7 +70,7 @@ pub stream_back : (s : Stream) → (let back : Stream = record {
 } in back) ≡ s
 stream_back s =
     ap (λ (h : ExpectedHeader). record {
-      asked = record { job = s.asked.job; allowed = s.asked.allowed; header = h; limits = s.asked.limits };
+      asked = record { base = s.asked.base; job = s.asked.job; allowed = s.asked.allowed; header = h; limits = s.asked.limits };
       checked = s.checked;
       rest = s.rest;
       released = s.released;
@@ -77,11 +80,11 @@ stream_back s =
 
 abbrev pub coded_stream : Coded Stream
 coded_stream =
-    code_by ((JobMeaning × ((Bool × Bool) × (Bool × (ℕ × ℕ)))) × ((List ℕ × List ℕ) × (ℕ × (ℕ × Bool))))
-    (coded× (coded× coded_job (coded× (coded× coded_bool coded_bool) (coded× coded_bool (coded× coded_ℕ coded_ℕ)))) (coded× (coded× (coded_list coded_ℕ) (coded_list coded_ℕ)) (coded× coded_ℕ (coded× coded_ℕ coded_bool))))
-    (λ s. ((s.asked.job, ((s.asked.allowed.raw, s.asked.allowed.dag_cbor), (header_bit s.asked.header, (s.asked.limits.header, s.asked.limits.section)))), ((s.checked, s.rest), (s.released, (s.sections, s.ended)))))
+    code_by (((Blocks × JobMeaning) × ((Bool × Bool) × (Bool × (ℕ × ℕ)))) × ((List ℕ × List ℕ) × (ℕ × (ℕ × Bool))))
+    (coded× (coded× (coded× coded_blocks coded_job) (coded× (coded× coded_bool coded_bool) (coded× coded_bool (coded× coded_ℕ coded_ℕ)))) (coded× (coded× (coded_list coded_ℕ) (coded_list coded_ℕ)) (coded× coded_ℕ (coded× coded_ℕ coded_bool))))
+    (λ s. (((s.asked.base, s.asked.job), ((s.asked.allowed.raw, s.asked.allowed.dag_cbor), (header_bit s.asked.header, (s.asked.limits.header, s.asked.limits.section)))), ((s.checked, s.rest), (s.released, (s.sections, s.ended)))))
     (λ p. record {
-      asked = record { job = p.0.0; allowed = record { raw = p.0.1.0.0; dag_cbor = p.0.1.0.1 }; header = header_by p.0.1.1.0; limits = record { header = p.0.1.1.1.0; section = p.0.1.1.1.1 } };
+      asked = record { base = p.0.0.0; job = p.0.0.1; allowed = record { raw = p.0.1.0.0; dag_cbor = p.0.1.0.1 }; header = header_by p.0.1.1.0; limits = record { header = p.0.1.1.1.0; section = p.0.1.1.1.1 } };
       checked = p.1.0.0;
       rest = p.1.0.1;
       released = p.1.1.0;
@@ -111,8 +114,8 @@ pub record AreChecked (asked : Asked) (checked : List ℕ) (r : Reception) : Typ
   pub spelled : header ≡ with_length text
   pub short : length text ≤ asked.limits.header
   pub bytes : checked ≡ header ++ flat_map (λ p. section_with p.0 (Some p.1)) r.sections
-  pub same : r ≡ reception_of asked.job asked.allowed r.sections r.visits false
-  pub received : AreReceived r.visits asked.job r.sections
+  pub same : r ≡ reception_with asked.base asked.job asked.allowed r.sections r.visits false
+  pub received : AreReceived asked.base r.visits asked.job r.sections
   pub cids : AllByRecursion (λ p. IsCid p.0) r.sections
   pub within : AllByRecursion (λ p. length (p.0 ++ p.1) ≤ asked.limits.section) r.sections
 
@@ -166,7 +169,7 @@ pub record IsFaultIn (asked : Asked) (stream : List ℕ) (place : ℕ) (reason :
   pub is : IsArchiveOf asked.header asked.job stream archive
   pub at : ℕ
   pub offset : at + length stream ≡ place + length archive
-  pub found : IsFaultAt asked.job asked.allowed archive at reason
+  pub found : IsFaultAtWith asked.base asked.job asked.allowed archive at reason
 
 -- a header can't be read
 abbrev pub IsUnreadable : List ℕ → CarKind → Type 0
@@ -174,7 +177,7 @@ IsUnreadable stream kind = (left : ℕ) × (header_at stream ≡ Err (record { k
 
 -- why a stream isn't accepted, and the offset: any header that is read may be there instead of the job's
 abbrev pub IsStreamFault : ExpectedHeader → Asked → List ℕ → ℕ → ArchiveReason → Type 0
-IsStreamFault OfJob asked stream place reason = IsFaultAt asked.job asked.allowed stream place reason
+IsStreamFault OfJob asked stream place reason = IsFaultAtWith asked.base asked.job asked.allowed stream place reason
 IsStreamFault Any asked stream place (Header kind) = (place ≡ 0) × IsUnreadable stream kind
 IsStreamFault Any asked stream place OtherHeader = ⊥
 IsStreamFault Any asked stream place Memory = Unit {0}
@@ -183,7 +186,7 @@ IsStreamFault Any asked stream place reason = IsFaultIn asked stream place reaso
 -- the archive that a stream is, of fewer than 2 ^ 63 bytes, isn't the job's own, unless a block is missing or memory ran out
 abbrev pub IsRightlyNoStream : Asked → List ℕ → ArchiveReason → Type 0
 IsRightlyNoStream asked stream reason =
-    (archive : List ℕ) → IsArchiveOf asked.header asked.job stream archive → length archive < 2 ^ 63 → IsRightlyNot asked.job archive reason
+    (archive : List ℕ) → IsArchiveOf asked.header asked.job stream archive → length archive < 2 ^ 63 → IsRightlyNotWith asked.base asked.job archive reason
 
 -- a length that is read at the front is above a limit
 pub record IsAbove (limit : ℕ) (b : List ℕ) (n : ℕ) : Type 0 where
@@ -219,8 +222,8 @@ IsStoppedAt old piece place reason =
 pub record IsWholeStream (asked : Asked) (stream : List ℕ) (counts : Counts) : Type 0 where
   pub archive : List ℕ
   pub is : IsArchiveOf asked.header asked.job stream archive
-  pub own : IsJobsOwn asked.job archive
-  pub accepted : IsAccepted asked.job asked.allowed archive counts
+  pub own : IsJobsOwnWith asked.base asked.job archive
+  pub accepted : IsAcceptedWith asked.base asked.job asked.allowed archive counts
 
 -- why the end of a stream is refused
 abbrev pub IsCutAt : Stream → ℕ → StreamReason → Type 0

@@ -4,7 +4,7 @@ use Rattle.std.specs.Coded.{Coded, code_by, coded×, coded_ℕ, coded_list}
 use Rattle.ix_walk.specs.JobMeaning.{JobMeaning}
 use Rattle.ix_car.specs.Reading.{header_at}
 use Rattle.ix_car.specs.Writing.{with_length}
-use Rattle.ix_receive.specs.Reception.{Reception, nothing_received}
+use Rattle.ix_receive.specs.Reception.{Reception, nothing_received_with}
 use Rattle.ix_own_archive.specs.declared.fault.ArchiveReason.{ArchiveReason}
 use Rattle.ix_own_archive.specs.declared.fault.ArchiveReason.TheVariants.{Header, OtherHeader, Section, Refused, Unfinished, Memory}
 use Rattle.ix_own_archive.specs.declared.stream_asked.ExpectedHeader.{ExpectedHeader}
@@ -121,7 +121,7 @@ pub record HasChecked (asked : Asked) (b : TakenBytes) (r : Reception) : Type 0 
 
 -- a receiver waits for more bytes
 pub data IsKept (asked : Asked) (b : TakenBytes) (r : Reception) : Type 0 where
-  before : b.checked ≡ [] → b.parts ≡ 0 → r ≡ nothing_received asked.job asked.allowed → is_whole asked.limits.header b.rest ≡ Ok false → IsKept asked b r
+  before : b.checked ≡ [] → b.parts ≡ 0 → r ≡ nothing_received_with asked.base asked.job asked.allowed → is_whole asked.limits.header b.rest ≡ Ok false → IsKept asked b r
   within : HasChecked asked b r → is_whole asked.limits.section b.rest ≡ Ok false → IsKept asked b r
 
 -- what is checked are whole parts, and unless it has ended a receiver waits

@@ -43,6 +43,7 @@ impl fmt::Display for Refusal<'_> {
     fn fmt<W: fmt::Write>(&self, f: &mut fmt::Formatter<W>) -> fmt::Result {
         match self.0 {
             ReceiveFault::Unsound(verdict) => write!(f, "{verdict}"),
+            ReceiveFault::InBase => f.write_str("in the base"),
             ReceiveFault::Repeated => f.write_str("repeated"),
             ReceiveFault::OutOfOrder => f.write_str("out of order"),
             ReceiveFault::NotAskedFor => f.write_str("not asked for"),

@@ -1,6 +1,8 @@
 //! The receiver of an archive as a stream.
 
-ghost use Rattle.std.specs.Prelude.{◌≡◌, false, length, drop, IfOk, IfErr, OnOk};
+ghost use Rattle.std.specs.Prelude.{◌≡◌, false, [], length, drop, IfOk, IfErr, OnOk};
+ghost use Rattle.ix_receive.specs.Base.{known_blocks, base_of};
+ghost use Rattle.ix_receive.specs.Reception.{nothing_received_with};
 ghost use Rattle.ix_own_archive.specs.Streaming.{nothing_taken, TakesOn, StopsAt, IsStoppedAt, IsWholeStream, taken_of, IsCutAt, AreKeptOf};
 
 use crate::stream_asked::{ExpectedHeader, StreamLimits};
@@ -56,6 +58,21 @@ impl<'s> Model for StreamReceiver<'s> {
     ghost invariant = { λ s. IsHeld (asked_of s.request) s.bytes s.receiver s.ended };
 }
 
+// Creates a receiver that has received nothing, with a base if there is one.
+fn receiver_with<'s>(
+    alloc: Global,
+    job: &'s Job,
+    allowed: AllowMissing,
+    base: Option<&'s Store>,
+) -> Receiver<'s>
+    ensures { result ≡ nothing_received_with (base_of base.entry) job.now allowed }
+{
+    match base {
+        Some(base) => Receiver::with_base(alloc, job, allowed, base),
+        None => Receiver::new(alloc, job, allowed),
+    }
+}
+
 impl<'s> StreamReceiver<'s> {
     /// Creates a receiver of an archive of a job, which has taken nothing. Blocks may be missing as
     /// `allowed` says.
@@ -67,19 +84,61 @@ impl<'s> StreamReceiver<'s> {
         limits: StreamLimits,
     ) -> Result<StreamReceiver<'s>, AllocError>
         ensures { IfOk result (λ s. s ≡ nothing_taken
-            (record { job = job.now; allowed = allowed; header = header; limits = limits })) }
+            (record { base = []; job = job.now; allowed = allowed; header = header; limits = limits })) }
+    {
+        StreamReceiver::over(alloc, job, None, allowed, header, limits)
+    }
+
+    /// Creates a receiver that has a base: the blocks of a store whose first copy is sound. The archive is the
+    /// difference, without them.
+    pub fn with_base(
+        alloc: Global,
+        job: &'s Job,
+        base: &'s Store,
+        allowed: AllowMissing,
+        header: ExpectedHeader,
+        limits: StreamLimits,
+    ) -> Result<StreamReceiver<'s>, AllocError>
+        ensures { IfOk result (λ s. s ≡ nothing_taken (record {
+          base = known_blocks base.now;
+          job = job.now;
+          allowed = allowed;
+          header = header;
+          limits = limits;
+        })) }
+    {
+        StreamReceiver::over(alloc, job, Some(base), allowed, header, limits)
+    }
+
+    // Creates a receiver, of which the blocks of a base are known if there is one.
+    fn over(
+        alloc: Global,
+        job: &'s Job,
+        base: Option<&'s Store>,
+        allowed: AllowMissing,
+        header: ExpectedHeader,
+        limits: StreamLimits,
+    ) -> Result<StreamReceiver<'s>, AllocError>
+        ensures { IfOk result (λ s. s ≡ nothing_taken (record {
+          base = base_of base.entry;
+          job = job.now;
+          allowed = allowed;
+          header = header;
+          limits = limits;
+        })) }
     {
         let jobs_header = header_of(alloc, job.roots())?;
         Ok(StreamReceiver {
             request: StreamRequest {
                 alloc,
                 job,
+                base,
                 allowed,
                 header,
                 limits,
                 jobs_header,
             },
-            receiver: Receiver::new(alloc, job, allowed),
+            receiver: receiver_with(alloc, job, allowed, base),
             bytes: StreamBytes::new(alloc),
             ended: false,
         })

@@ -5,13 +5,17 @@ ghost use Rattle.ix_car.specs.Writing.{header_of};
 
 use crate::stream_asked::{ExpectedHeader, StreamLimits};
 use ix_receive::AllowMissing;
+use ix_store::Store;
 use ix_walk::Job;
 use std::alloc::Global;
 
-// What is asked of a stream: the archive of a job, of which some blocks may be missing.
+// What is asked of a stream: the archive of a job, of which some blocks may be missing, without those that
+// a base has.
 pub(crate) struct StreamRequest<'s> {
     pub alloc: Global,
     pub job: &'s Job,
+    // The store with the blocks of the base, if there is one.
+    pub base: Option<&'s Store>,
     pub allowed: AllowMissing,
     pub header: ExpectedHeader,
     pub limits: StreamLimits,
@@ -26,6 +30,7 @@ impl<'s> Drop for StreamRequest<'s> {
         let StreamRequest {
             alloc: _,
             job: _,
+            base: _,
             allowed: _,
             header: _,
             limits: _,

@@ -1,5 +1,5 @@
 -- The archive of a job, over the store of its own sections.
-use Rattle.std.proofs.Common.{◌≡◌, inl, inr, ℕ, suc, Bool, true, false, ◌&&◌, ◌||◌, List, [], ◌∷◌, ◌++◌, length, map, filter, flat_map, refl, sym, ap, ◌∙◌, subst}
+use Rattle.std.proofs.Common.{◌≡◌, inl, inr, ℕ, suc, Bool, true, false, not, ◌&&◌, ◌||◌, List, [], ◌∷◌, ◌++◌, length, map, filter, flat_map, refl, sym, ap, ◌∙◌, subst}
 use Rattle.std.specs.Prelude.{Option, Some, None, is_some, is_none, if◌then◌else◌, nat_lt, bytes_eq, ◌==◌}
 use Rattle.std.specs.List.{AllByRecursion}
 use Rattle.std.proofs.lemmas.List.Folds.{flat_map-map}
@@ -17,19 +17,21 @@ use Rattle.ix_walk.specs.JobMeaning.{JobMeaning}
 use Rattle.ix_walk.specs.Arrivals.{Arrival}
 use Rattle.ix_walk.specs.Visits.{arrivals_of, is_over_limit}
 use Rattle.ix_walk.specs.Once.{roots_from, first_ones, is_sound_by, sound_value, once_arrivals}
-use Rattle.ix_walk.proofs.Firsts.{In, filter-in, in-filter, in-first_ones}
+use Rattle.ix_walk.proofs.Firsts.{In, filter-both, filter-in, in-filter, in-first_ones}
 use Rattle.ix_walk.proofs.Links.{cid_of}
 use Rattle.ix_verdict.specs.declared.verdict.Verdict.TheVariants.{Codec, Damaged, Malformed, Sound}
 use Rattle.ix_check.specs.Verdict.{verdict_by, has_codec, verdict_with}
 use Rattle.ix_archive.specs.Verified.{all_judged}
-use Rattle.ix_archive.specs.Restoring.{pair_with}
-use Rattle.ix_archive.specs.Archive.{is_sound, first_sound, sections_of}
+use Rattle.ix_archive.specs.Restoring.{pair_with, difference_pairs}
+use Rattle.ix_archive.specs.Archive.{Known, is_sound, first_sound, sections_of, new_sections}
 use Rattle.ix_archive.specs.KnownPlaces.{knows}
 use Rattle.ix_archive.specs.Laws.{once}
 use Rattle.ix_archive.proofs.SoundValues.{value_by}
+use Rattle.ix_archive.specs.declared.sink.Delivery.{Delivery}
 use Rattle.ix_archive.proofs.GoingOnce.{cid_told, map-filter, first_sound-cids, sound-block, visits-cids, visits-judged}
 use Rattle.ix_archive.proofs.Visited.{IsSameInside, once-same}
 use Rattle.ix_receive.specs.Own.{archive_pairs, AreTheirOwn}
+use Rattle.ix_receive.specs.Receiving.{new_cids}
 use Rattle.ix_receive.proofs.Lookup.{pair_in, pair-found, pair-absent}
 
 -- ---- a block that isn't sound is as good as none
@@ -71,16 +73,40 @@ chosen store cs = filter (has_block store) (filter (knows store) cs)
 abbrev first_cids : Blocks → JobMeaning → List (List ℕ)
 first_cids store job = first_ones (map cid_of (once_arrivals store job (residual_at job.selector) same_residual))
 
--- the sections of the job are those of the sound ones of them
-pub pairs-by : (store : Blocks) (number : ℕ) (job : JobMeaning) → archive_pairs store number (once job) ≡ flat_map (pair_in store) (chosen store (first_cids store job))
-pairs-by store number job =
+-- the sound ones of those that aren't known
+new-chosen : (known : Known) (store : Blocks) (cs : List (List ℕ)) → new_cids known (chosen store cs) ≡ chosen store (new_cids known cs)
+new-chosen None store cs = refl
+new-chosen (Some known) store cs =
+    after (has_block store) (filter (knows store) cs) ∙ ap (filter (has_block store)) (after (knows store) cs) where
+      swapped : (a b : Bool) → (a && b) ≡ (b && a)
+      swapped true true = refl
+      swapped true false = refl
+      swapped false true = refl
+      swapped false false = refl
+
+      after : (q : List ℕ → Bool) (xs : List (List ℕ)) → filter (λ c. not (known c)) (filter q xs) ≡ filter q (filter (λ c. not (known c)) xs)
+      after q xs =
+          filter-both (λ c. not (known c)) q (λ c. q c && not (known c)) (λ c. refl) xs
+          ∙ sym (filter-both q (λ c. not (known c)) (λ c. q c && not (known c)) (λ c. swapped (not (known c)) (q c)) xs)
+
+-- the CIDs of new sections
+new-told : (known : Known) (store : Blocks) (ds : List Delivery) → map cid_told (new_sections known store ds) ≡ new_cids known (map cid_told (sections_of store ds))
+new-told None store ds = refl
+new-told (Some known) store ds = map-filter (λ c. not (known c)) (sections_of store ds)
+
+-- the sections of the job are those of the sound ones of them that aren't known
+pub pairs-by : (known : Known) (store : Blocks) (number : ℕ) (job : JobMeaning) → difference_pairs known store number (once job) ≡ flat_map (pair_in store) (chosen store (new_cids known (first_cids store job)))
+pairs-by known store number job =
     let all = all_judged store number (once job) in
-    sym (flat_map-map (pair_in store) cid_told (sections_of store all))
+    sym (flat_map-map (pair_in store) cid_told (new_sections known store all))
     ∙ ap (flat_map (pair_in store))
+    (new-told known store all
+    ∙ ap (new_cids known)
     (map-filter (has_block store) (first_sound all)
     ∙ ap (filter (has_block store))
     (first_sound-cids store all (visits-judged store number 0 (arrivals_of store (once job)))
     ∙ ap (λ l. filter (knows store) (first_ones l)) (visits-cids store number 0 (arrivals_of store (once job)))))
+    ∙ new-chosen known store (first_cids store job))
 
 -- ---- each section is sound
 
@@ -129,13 +155,13 @@ module _ (store : Blocks) (cids : List (List ℕ)) where
   sections = flat_map (pair_in store) (chosen store cids)
 
   -- it has the blocks of the sound ones
-  block-sound : (c : List ℕ) → In c cids → knows store c ≡ true → block_of sections c ≡ block_of store c
+  pub block-sound : (c : List ℕ) → In c cids → knows store c ≡ true → block_of sections c ≡ block_of store c
   block-sound c i sound =
       let there = sound-block c (block_of store c) sound in
       pair-found store c there (chosen store cids) (filter-in (has_block store) c (filter (knows store) cids) (filter-in (knows store) c cids i sound) there)
 
   -- and no others
-  block-unsound : (c : List ℕ) → knows store c ≡ false → block_of sections c ≡ None
+  pub block-unsound : (c : List ℕ) → knows store c ≡ false → block_of sections c ≡ None
   block-unsound c out = pair-absent store c (chosen store cids) (λ i. absent (in-filter (knows store) c cids (in-filter (has_block store) c (filter (knows store) cids) i).0).1) where
     absent : knows store c ≡ true → ⊥
     absent is = let bad : true ≡ false = sym is ∙ out in cc bad
@@ -148,7 +174,7 @@ module _ (store : Blocks) (cids : List (List ℕ)) where
     by false out = ap (value_in (hash_function_of (parts_of c)) c) (block-unsound c out) ∙ none-value (hash_function_of (parts_of c)) c (block_of store c) out
 
   -- and is sound in both or in neither
-  knows-same : (c : List ℕ) → In c cids → knows sections c ≡ knows store c
+  pub knows-same : (c : List ℕ) → In c cids → knows sections c ≡ knows store c
   knows-same c i = by (knows store c) refl where
     none : (b : Bool) → is_sound (verdict_with c None) ≡ b → b ≡ false
     none true is = sym (sound-block c None is)
@@ -183,19 +209,19 @@ module _ (store : Blocks) (number : ℕ) (job : JobMeaning) where
   visits-same : once_arrivals own job (residual_at job.selector) same_residual ≡ once_arrivals store job (residual_at job.selector) same_residual
   visits-same =
       let met = once_arrivals store job (residual_at job.selector) same_residual in
-      let same : (c : List ℕ) → In c cids → sound_value own c ≡ sound_value store c = λ c i. ap (λ s. sound_value s c) (pairs-by store number job) ∙ value-same store cids c i in
+      let same : (c : List ℕ) → In c cids → sound_value own c ≡ sound_value store c = λ c i. ap (λ s. sound_value s c) (pairs-by None store number job) ∙ value-same store cids c i in
       once-same (is_entered job.selector) (sound_value store) (sound_value own) (residual_at job.selector) same_residual (suc job.limit) [] (roots_from 0 job.roots)
       (each-inside store own job met (λ c i. same c (in-first_ones c (map cid_of met) i)))
 
   -- so its sections are their own
   pub own-again : is_over_limit store (once job) ≡ false → AreTheirOwn number (once job) own
   own-again within = record {
-    sound = subst (AllByRecursion IsSoundPair) (sym (pairs-by store number job)) (sections-sound store cids);
+    sound = subst (AllByRecursion IsSoundPair) (sym (pairs-by None store number job)) (sections-sound store cids);
     within = ap (λ l. nat_lt job.limit (length l)) visits-same ∙ within;
     same =
-        pairs-by own number job
+        pairs-by None own number job
         ∙ ap (λ l. flat_map (pair_in own) (chosen own (first_ones (map cid_of l)))) visits-same
-        ∙ ap (λ s. flat_map (pair_in s) (chosen s cids)) (pairs-by store number job)
+        ∙ ap (λ s. flat_map (pair_in s) (chosen s cids)) (pairs-by None store number job)
         ∙ sections-same store cids
-        ∙ sym (pairs-by store number job);
+        ∙ sym (pairs-by None store number job);
   }

@@ -1,8 +1,11 @@
 mod Firsts
+mod Fresh
 mod Lookup
 mod Again
+mod Bases
+mod Differences
 mod Visits
-mod Received
+pub mod Received
 mod Expansions
 mod NextLinks
 mod Traversing

@@ -1,8 +1,8 @@
 -- The block of a CID among the pairs of some CIDs.
 use Rattle.std.proofs.Common.{◌≡◌, inl, inr, ℕ, Bool, true, false, List, [], ◌∷◌, ◌++◌, flat_map, sym, refl, ap, ◌∙◌}
-use Rattle.std.specs.Prelude.{Option, Some, None, is_some, if◌then◌else◌, bytes_eq}
+use Rattle.std.specs.Prelude.{Option, Some, None, is_some, if◌then◌else◌, ◌||◌, bytes_eq}
 use Rattle.std.proofs.lemmas.Slice.Eq.{bytes_eq-Decides}
-use Rattle.ix_store.specs.Store.{Blocks, block_of}
+use Rattle.ix_store.specs.Store.{Blocks, has_cid, block_of}
 use Rattle.ix_archive.specs.Restoring.{pair_with}
 use Rattle.ix_walk.proofs.Firsts.{In}
 
@@ -38,3 +38,49 @@ pair-absent store c (d ∷ ds) new = by (bytes_eq d c) refl (pair-absent store c
   by : (v : Bool) → bytes_eq d c ≡ v → block_of (flat_map (pair_in store) ds) c ≡ None → block_of (flat_map (pair_in store) (d ∷ ds)) c ≡ None
   by true is later = absurd (new (inl ((bytes_eq-Decides d c).0 is)))
   by false isnt later = pair-other c d (block_of store d) (flat_map (pair_in store) ds) isnt ∙ later
+
+-- ---- the blocks of two lists of pairs
+
+-- a CID that is there has a block
+pub has-block : (store : Blocks) (c : List ℕ) → is_some (block_of store c) ≡ has_cid store c
+has-block [] c = refl
+has-block (e ∷ es) c = by (bytes_eq e.0 c) (has-block es c) where
+  by : (b : Bool) → is_some (block_of es c) ≡ has_cid es c → is_some (if b then Some e.1 else block_of es c) ≡ (b || has_cid es c)
+  by true h = refl
+  by false h = h
+
+-- one that isn't has none
+pub no-block : (store : Blocks) (c : List ℕ) → has_cid store c ≡ false → block_of store c ≡ None
+no-block [] c h = refl
+no-block (e ∷ es) c h = by (bytes_eq e.0 c) h (no-block es c) where
+  by : (b : Bool) → (b || has_cid es c) ≡ false → (has_cid es c ≡ false → block_of es c ≡ None) → (if b then Some e.1 else block_of es c) ≡ None
+  by true bad later = absurd (cc bad)
+  by false out later = later out
+
+-- a CID of the first list has its block there
+pub block-left : (xs ys : Blocks) (c : List ℕ) → has_cid xs c ≡ true → block_of (xs ++ ys) c ≡ block_of xs c
+block-left [] ys c h = absurd (cc h)
+block-left (e ∷ es) ys c h = by (bytes_eq e.0 c) h (block-left es ys c) where
+  by : (b : Bool) → (b || has_cid es c) ≡ true → (has_cid es c ≡ true → block_of (es ++ ys) c ≡ block_of es c) → (if b then Some e.1 else block_of (es ++ ys) c) ≡ (if b then Some e.1 else block_of es c)
+  by true h later = refl
+  by false h later = later h
+
+-- any other in the second
+pub block-right : (xs ys : Blocks) (c : List ℕ) → has_cid xs c ≡ false → block_of (xs ++ ys) c ≡ block_of ys c
+block-right [] ys c h = refl
+block-right (e ∷ es) ys c h = by (bytes_eq e.0 c) h (block-right es ys c) where
+  by : (b : Bool) → (b || has_cid es c) ≡ false → (has_cid es c ≡ false → block_of (es ++ ys) c ≡ block_of ys c) → (if b then Some e.1 else block_of (es ++ ys) c) ≡ block_of ys c
+  by true h later = absurd (cc h)
+  by false h later = later h
+
+-- both have the CIDs of either
+pub has-append : (xs ys : Blocks) (c : List ℕ) → has_cid (xs ++ ys) c ≡ (has_cid xs c || has_cid ys c)
+has-append [] ys c = refl
+has-append (e ∷ es) ys c = by (bytes_eq e.0 c) (has-append es ys c) where
+  by : (b : Bool) → has_cid (es ++ ys) c ≡ (has_cid es c || has_cid ys c) → (b || has_cid (es ++ ys) c) ≡ ((b || has_cid es c) || has_cid ys c)
+  by true h = refl
+  by false h = h
+
+-- so they lack those that neither has
+pub in-neither : (xs ys : Blocks) (c : List ℕ) → has_cid xs c ≡ false → has_cid ys c ≡ false → has_cid (xs ++ ys) c ≡ false
+in-neither xs ys c left right = has-append xs ys c ∙ ap (λ b. b || has_cid ys c) left ∙ right

@@ -1,5 +1,5 @@
 -- A section is received, or refused.
-use Rattle.std.proofs.Common.{◌≡◌, ◌⊎◌, inl, inr, ℕ, suc, ◌+◌, ◌<◌, ◌≤◌, Bool, true, false, cond, List, [], ◌∷◌, ◌++◌, map, drop, take-append-drop, refl, sym, ◌∙◌, ap, subst, arith, ltb-true, ltb-false}
+use Rattle.std.proofs.Common.{◌≡◌, ◌⊎◌, inl, inr, ℕ, suc, ◌+◌, ◌<◌, ◌≤◌, Bool, true, false, cond, List, [], ◌∷◌, ◌++◌, map, drop, take-append-drop, append_assoc, append-nil, refl, sym, ◌∙◌, ap, subst, arith, ltb-true, ltb-false}
 use Rattle.std.specs.Prelude.{Option, Some, None, is_some, nat_lt, ◌||◌, if◌then◌else◌, bytes_eq}
 use Rattle.std.specs.List.{Contains, count_by, list_any}
 use Rattle.std.specs.Ordering.{nat_cmp}
@@ -24,7 +24,7 @@ use Rattle.ix_walk.specs.Once.{cids_of}
 use Rattle.ix_walk.specs.Visits.{arrivals_of, is_over_limit}
 use Rattle.ix_walk.specs.Walking.{data_inside, links_inside, root_link}
 use Rattle.ix_walk.proofs.Firsts.{In}
-use Rattle.ix_walk.proofs.Links.{cid_of}
+use Rattle.ix_walk.proofs.Links.{cid_of, all-append}
 use Rattle.ix_walk.proofs.Reaches.{contains-in, in-contains}
 use Rattle.ix_walk.proofs.Starts.{IsFollowed}
 use Rattle.ix_lists.specs.Waiting.{all_waiting, IsNextLink}
@@ -35,10 +35,11 @@ use Rattle.ix_receive.specs.declared.counts.Counts.{Counts}
 use Rattle.ix_receive.specs.declared.traversal.Traversal.{Traversal}
 use Rattle.ix_receive.specs.Receiving.{first_visits, AreReceived, IsNextSection}
 use Rattle.ix_receive.specs.Missing.{lacks_block}
-use Rattle.ix_receive.specs.Traversal.{visited, expanded_by, links_of, IsTraversed, Expands, as_pending}
+use Rattle.ix_receive.specs.Traversal.{AreSound, visited, expanded_by, links_of, IsTraversed, Expands, as_pending}
 use Rattle.ix_receive.specs.Passing.{has, KnowsMissing, IsPassing, IsBefore, IsNeeded, IsStopped, IsFound, IsAtEnd, IsPassed}
-use Rattle.ix_receive.specs.Reception.{IsReceiving, IsReceived, IsWhole, reception_of}
-use Rattle.ix_receive.proofs.Received.{visits-first, stored-visited, received-stay, received-own, next-received, section-block}
+use Rattle.ix_receive.specs.Reception.{IsReceiving, IsReceived, IsWhole, reception_with}
+use Rattle.ix_receive.proofs.Lookup.{no-block}
+use Rattle.ix_receive.proofs.Received.{visits-first, none-at-first, stored-visited, received-stay, received-own, next-received, own-block, section-block}
 use Rattle.ix_receive.proofs.Expansions.{expanded-none}
 use Rattle.ix_receive.proofs.Traversing.{begins, visits-one, next-visit, steps, kept-block, grown-visits, grows, ends-visits, ends-count, ends-within, over}
 use Rattle.ix_receive.proofs.Passings.{knows-there, put-links}
@@ -106,16 +107,6 @@ new-before job allowed sections f t c d stopped isnt first = (t.visits, stopped.
   by (inl h) = first h
   by (inr same) = let bad : false ≡ true = sym isnt ∙ (bytes_eq-Decides f.cid c).1 (sym stopped.named ∙ same) in cc bad
 
--- ---- the sections
-
--- a CID that isn't there has no block
-no-block : (store : Blocks) (c : List ℕ) → has_cid store c ≡ false → block_of store c ≡ None
-no-block [] c h = refl
-no-block (e ∷ es) c h = by (bytes_eq e.0 c) h (no-block es c) where
-  by : (b : Bool) → (b || has_cid es c) ≡ false → (has_cid es c ≡ false → block_of es c ≡ None) → (if b then Some e.1 else block_of es c) ≡ None
-  by true bad later = absurd (cc bad)
-  by false out later = later out
-
 -- ---- whether a block is missing
 
 -- a CID whose block could be sound lacks it if there is none
@@ -175,74 +166,89 @@ count-same f g (c ∷ cs) h =
 
 -- ---- a section is received
 
-module _ (job : JobMeaning) (allowed : AllowMissing) (sections : Blocks) (p : List ℕ × List ℕ) (f : PendingLink) (old t : Traversal) (was : IsReceiving job allowed sections old) (found : IsFound job allowed sections p.0 f old t) (sound : is_sound (verdict_with p.0 (Some p.1)) ≡ true) where
+module _ (base : Blocks) (job : JobMeaning) (allowed : AllowMissing) (sections : Blocks) (p : List ℕ × List ℕ) (f : PendingLink) (old t : Traversal) (was : IsReceiving base job allowed sections old) (found : IsFound job allowed (base ++ sections) p.0 f old t) (sound : is_sound (verdict_with p.0 (Some p.1)) ≡ true) (outside : has_cid base p.0 ≡ false) where
   abbrev n : ℕ
   n = t.visits
 
+  -- what there is before it
+  abbrev now : Blocks
+  now = base ++ sections
+
+  -- and with it
   abbrev more : Blocks
-  more = sections ++ p ∷ []
+  more = now ++ p ∷ []
+
+  same-more : more ≡ base ++ (sections ++ p ∷ [])
+  same-more = append_assoc base sections (p ∷ [])
 
   abbrev links : List PendingLink
   links = links_of job.selector t
 
   -- the visits go on with its link
-  abbrev traversed : IsTraversed n job sections (expanded_by t.expanded) (f ∷ links)
+  abbrev traversed : IsTraversed n job now (expanded_by t.expanded) (f ∷ links)
   traversed = found.before.traversed
 
   -- its visit is the next
-  next-one : (visit : Arrival) × (first_visits (suc n) job sections ≡ first_visits n job sections ++ visit ∷ []) × (visit.cid ≡ f.cid)
-  next-one = next-visit n job sections (expanded_by t.expanded) f links traversed
+  next-one : (visit : Arrival) × (first_visits (suc n) job now ≡ first_visits n job now ++ visit ∷ []) × (visit.cid ≡ f.cid)
+  next-one = next-visit n job now (expanded_by t.expanded) f links traversed
 
-  pub is-next : IsNextSection n job sections p
-  is-next = record { sound = sound; visit = next-one.0; next = next-one.1; named = next-one.2 ∙ found.named; first = found.first }
+  pub is-next : IsNextSection base n job sections p
+  is-next = record { sound = sound; outside = outside; visit = next-one.0; next = next-one.1; named = next-one.2 ∙ found.named; first = found.first }
 
   -- so far the sections are received
-  pub so-far : AreReceived n job sections
-  so-far = received-stay job sections old.visits was.received n found.later
+  pub so-far : AreReceived base n job sections
+  so-far = received-stay base job sections old.visits was.received n found.later
 
-  pub now-received : AreReceived (suc n) job more
-  now-received = next-received job sections p n so-far is-next
+  pub now-received : AreReceived base (suc n) job (sections ++ p ∷ [])
+  now-received = next-received base job sections p n so-far is-next
+
+  -- all blocks are sound
+  pub now-sound : AreSound (base ++ (sections ++ p ∷ []))
+  now-sound = subst AreSound same-more (all-append (λ p. is_sound (verdict_with p.0 (Some p.1)) ≡ true) now (p ∷ []) found.before.sound (sound, tt))
 
   -- after no fewer visits
-  pub now-least : (m : ℕ) → AreReceived m job more → suc n ≤ m
+  pub now-least : (m : ℕ) → AreReceived base m job (sections ++ p ∷ []) → suc n ≤ m
   now-least m is = by (le_or m n) where
     by : (m ≤ n) ⊎ (suc n ≤ m) → suc n ≤ m
     by (inr high) = high
     by (inl low) =
-        let there = stored-visited job more m is p.0 (ap is_some (section-block job sections p n so-far is-next)) in
-        absurd (found.first (subst (λ l. Contains l p.0) (grown-visits n job sections (expanded_by t.expanded) (f ∷ links) p traversed found.first)
-        (visited-more job more m n p.0 low (contains-in p.0 (visited m job more) there))))
+        let there = stored-visited base job (sections ++ p ∷ []) m is p.0 (ap is_some (own-block base job sections p n so-far is-next)) in
+        let visits : Contains (visited m job more) p.0 = subst (λ (s : Blocks). Contains (visited m job s) p.0) (sym same-more) (contains-in p.0 (visited m job (base ++ (sections ++ p ∷ []))) there) in
+        absurd (found.first (subst (λ l. Contains l p.0) (grown-visits n job now (expanded_by t.expanded) (f ∷ links) p traversed found.first) (visited-more job more m n p.0 low visits)))
 
   -- the traversal goes on over them
   pub now-traversed : IsTraversed n job more (expanded_by t.expanded) (f ∷ links)
-  now-traversed = grows n job sections (expanded_by t.expanded) (f ∷ links) p traversed found.first
+  now-traversed = grows n job now (expanded_by t.expanded) (f ∷ links) p traversed found.first
 
   -- what was missing still is
-  kept-lacks : (c : List ℕ) → Contains (visited n job sections) c → lacks_block more c ≡ lacks_block sections c
-  kept-lacks c i = ap (λ o. is_missing (verdict_with c o)) (kept-block sections p c (λ e. found.first (subst (Contains (visited n job sections)) (sym e) i)))
+  kept-lacks : (c : List ℕ) → Contains (visited n job now) c → lacks_block more c ≡ lacks_block now c
+  kept-lacks c i = ap (λ o. is_missing (verdict_with c o)) (kept-block now p c (λ e. found.first (subst (Contains (visited n job now)) (sym e) i)))
 
-  same-visits : visited n job more ≡ visited n job sections
-  same-visits = grown-visits n job sections (expanded_by t.expanded) (f ∷ links) p traversed found.first
+  same-visits : visited n job more ≡ visited n job now
+  same-visits = grown-visits n job now (expanded_by t.expanded) (f ∷ links) p traversed found.first
 
   kept-knows : KnowsMissing n job allowed more t.missing t.absent
   kept-knows =
       let knows = found.before.missing in
-      let back : (c : List ℕ) → Contains (visited n job more) c → Contains (visited n job sections) c = λ c i. subst (λ l. Contains l c) same-visits i in
+      let back : (c : List ℕ) → Contains (visited n job more) c → Contains (visited n job now) c = λ c i. subst (λ l. Contains l c) same-visits i in
       record {
         recorded = λ c i lacks. knows.recorded c (back c i) (sym (kept-lacks c (back c i)) ∙ lacks);
         met = λ c i. subst (λ l. Contains l c) (sym same-visits) (knows.met c i);
         may = λ c i lacks. knows.may c (back c i) (sym (kept-lacks c (back c i)) ∙ lacks);
         count =
-            knows.count ∙ sym (count-same (lacks_block more) (lacks_block sections) (visited n job sections) (λ c i. kept-lacks c (contains-in c (visited n job sections) i)))
+            knows.count ∙ sym (count-same (lacks_block more) (lacks_block now) (visited n job now) (λ c i. kept-lacks c (contains-in c (visited n job now) i)))
             ∙ ap (count_by (lacks_block more)) (sym same-visits);
       }
 
   -- and its block isn't
   here : lacks_block more p.0 ≡ false
-  here = ap (λ o. is_missing (verdict_with p.0 o)) (section-block job sections p n so-far is-next) ∙ sound-there (verdict_with p.0 (Some p.1)) sound
+  here = ap (λ o. is_missing (verdict_with p.0 o)) (section-block base job sections p n so-far is-next) ∙ sound-there (verdict_with p.0 (Some p.1)) sound
 
   -- its link was expanded
-  module _ (u : Traversal) (expands : Expands more f t.expanded (map as_pending t.links.items) u.expanded (map as_pending u.links.items)) (roots : u.roots.now ≡ t.roots.now) (visits : u.visits ≡ n + 1) (missing : u.missing ≡ t.missing) (absent : u.absent ≡ t.absent) where
+  module _ (u : Traversal) (expanded : Expands (base ++ (sections ++ p ∷ [])) f t.expanded (map as_pending t.links.items) u.expanded (map as_pending u.links.items)) (roots : u.roots.now ≡ t.roots.now) (visits : u.visits ≡ n + 1) (missing : u.missing ≡ t.missing) (absent : u.absent ≡ t.absent) where
+    expands : Expands more f t.expanded (map as_pending t.links.items) u.expanded (map as_pending u.links.items)
+    expands = subst (λ (s : Blocks). Expands s f t.expanded (map as_pending t.links.items) u.expanded (map as_pending u.links.items)) (sym same-more) expanded
+
     count : u.visits ≡ suc n
     count = let one : n + 1 ≡ suc n = omega arith in visits ∙ one
 
@@ -253,7 +259,7 @@ module _ (job : JobMeaning) (allowed : AllowMissing) (sections : Blocks) (p : Li
         ap (λ rs. all_waiting job.selector (map as_pending u.links.items) rs) roots ∙ put-links job.selector inside (map as_pending t.links.items) (map as_pending u.links.items) t.roots.now expands.links in
         let last : visited (suc n) job more ≡ visited n job more ++ p.0 ∷ [] = visits-one n job more (expanded_by t.expanded) f links now-traversed ∙ ap (λ c. visited n job more ++ c ∷ []) found.named in
         record {
-          sound = now-received.sound;
+          sound = all-append (λ p. is_sound (verdict_with p.0 (Some p.1)) ≡ true) now (p ∷ []) found.before.sound (sound, tt);
           traversed =
               subst (λ k. IsTraversed k job more (expanded_by u.expanded) (links_of job.selector u)) (sym count)
               (steps n job more (expanded_by t.expanded) f links now-traversed (expanded_by u.expanded) (links_of job.selector u) found.before.within expands.expanded put);
@@ -263,35 +269,38 @@ module _ (job : JobMeaning) (allowed : AllowMissing) (sections : Blocks) (p : Li
               (subst (KnowsMissing (suc n) job allowed more t.missing) (sym absent) (knows-there n job allowed more t.missing t.absent kept-knows p.0 last here)));
         }
 
-    pub is-received : (store : Blocks) → store ≡ more → IsReceived job allowed sections old.visits p store u
-    is-received store same = record {
+    pub is-received : (store : Blocks × Blocks) → store.0 ≡ base → store.1 ≡ sections ++ p ∷ [] → IsReceived job allowed (base, sections) old.visits p store u
+    is-received store kept same = record {
       place = n;
       next = record { later = found.later; within = found.before.within; next = is-next; may = found.before.missing.may };
+      base = kept;
       added = same;
       visits_now = count;
       receiving =
-          subst (λ s. IsReceiving job allowed s u) (sym same)
+          subst (λ (b : Blocks). IsReceiving b job allowed store.1 u) (sym kept)
+          (subst (λ (s : Blocks). IsReceiving base job allowed s u) (sym same)
           (record {
-            received = subst (λ k. AreReceived k job more) (sym count) now-received;
+            received = subst (λ k. AreReceived base k job (sections ++ p ∷ [])) (sym count) now-received;
             least = λ m is. subst (λ k. k ≤ m) (sym count) (now-least m is);
-            passing = now-passing;
-          });
+            passing = subst (λ (s : Blocks). IsPassing job allowed s u) same-more now-passing;
+          }));
     }
 
 -- ---- the beginning and the end
 
-pub none-received : (job : JobMeaning) (allowed : AllowMissing) (t : Traversal) → IsFollowed job.selector → t.expanded.keys ≡ [] → t.links.items ≡ [] → t.roots.now ≡ job.roots → t.visits ≡ 0 → t.missing.keys ≡ [] → t.absent ≡ 0 → IsReceiving job allowed [] t
-none-received job allowed t is expanded links roots visits missing absent =
-    let none : IsTraversed 0 job [] (expanded_by t.expanded) (map (root_link job.selector) job.roots) = begins job (expanded_by t.expanded) is (expanded-none t.expanded expanded) in
+pub none-received : (base : Blocks) (job : JobMeaning) (allowed : AllowMissing) (t : Traversal) → AreSound base → IsFollowed job.selector → t.expanded.keys ≡ [] → t.links.items ≡ [] → t.roots.now ≡ job.roots → t.visits ≡ 0 → t.missing.keys ≡ [] → t.absent ≡ 0
+    → IsReceiving base job allowed [] t
+none-received base job allowed t all_sound is expanded links roots visits missing absent =
+    let none : IsTraversed 0 job (base ++ []) (expanded_by t.expanded) (map (root_link job.selector) job.roots) = begins job (base ++ []) (expanded_by t.expanded) is (expanded-none t.expanded expanded) in
     let all : links_of job.selector t ≡ map (root_link job.selector) job.roots = ap (λ ls. all_waiting job.selector (map as_pending ls) t.roots.now) links ∙ ap (map (root_link job.selector)) roots in
     let empty : (c : List ℕ) → has t.missing c ≡ false = λ c. ap (λ ks. list_any (is_at (slice_cmp nat_cmp c)) ks) missing in
     record {
-      received = subst (λ k. AreReceived k job []) (sym visits) (record { sound = tt; visited = refl });
+      received = subst (λ k. AreReceived base k job []) (sym visits) (none-at-first base job);
       least = λ m h. subst (λ k. k ≤ m) (sym visits) (omega arith);
       passing = record {
-        sound = tt;
-        traversed = subst (λ k. IsTraversed k job [] (expanded_by t.expanded) (links_of job.selector t)) (sym visits) (subst (IsTraversed 0 job [] (expanded_by t.expanded)) (sym all) none);
-        missing = subst (λ k. KnowsMissing k job allowed [] t.missing t.absent) (sym visits) (record {
+        sound = subst AreSound (sym (append-nil base)) all_sound;
+        traversed = subst (λ k. IsTraversed k job (base ++ []) (expanded_by t.expanded) (links_of job.selector t)) (sym visits) (subst (IsTraversed 0 job (base ++ []) (expanded_by t.expanded)) (sym all) none);
+        missing = subst (λ k. KnowsMissing k job allowed (base ++ []) t.missing t.absent) (sym visits) (record {
           recorded = λ c i. absurd (in-contains c [] i);
           met = λ c i. absurd (let bad : false ≡ true = sym (empty c) ∙ i in cc bad);
           may = λ c i. absurd (in-contains c [] i);
@@ -300,16 +309,17 @@ none-received job allowed t is expanded links roots visits missing absent =
       };
     }
 
-pub is-whole : (job : JobMeaning) (allowed : AllowMissing) (sections : Blocks) (old new : Traversal) (ended : Bool) (counts : Counts) → IsReceiving job allowed sections old → IsAtEnd job allowed sections old new → counts.visits ≡ new.visits → counts.missing ≡ new.absent
-    → IsWhole (reception_of job allowed sections old.visits ended) counts
-is-whole job allowed sections old new ended counts was end visits missing =
-    let done = at-end job allowed sections new end.passing end.ends in
+pub is-whole : (base : Blocks) (job : JobMeaning) (allowed : AllowMissing) (sections : Blocks) (old new : Traversal) (ended : Bool) (counts : Counts) → IsReceiving base job allowed sections old → IsAtEnd job allowed (base ++ sections) old new
+    → counts.visits ≡ new.visits → counts.missing ≡ new.absent → IsWhole (reception_with base job allowed sections old.visits ended) counts
+is-whole base job allowed sections old new ended counts was end visits missing =
+    let store = base ++ sections in
+    let done = at-end job allowed store new end.passing end.ends in
     let low : new.visits ≤ suc job.limit = let h = done.low in omega arith in
     let first : old.visits ≤ suc job.limit = let h = end.later in omega (arith, low) in
-    let all : visited (suc job.limit) job sections ≡ visited new.visits job sections = ends-visits new.visits (suc job.limit) job sections (expanded_by new.expanded) low done in
+    let all : visited (suc job.limit) job store ≡ visited new.visits job store = ends-visits new.visits (suc job.limit) job store (expanded_by new.expanded) low done in
     record {
-      own = λ number. received-own job sections old.visits was.received number first (ends-within new.visits job sections (expanded_by new.expanded) done);
+      own = λ number. received-own base job sections old.visits was.received number first (ends-within new.visits job store (expanded_by new.expanded) done);
       may = λ c i. end.passing.missing.may c (subst (λ l. Contains l c) all i);
-      visits = visits ∙ sym (ends-count new.visits job sections (expanded_by new.expanded) done);
-      missing = missing ∙ end.passing.missing.count ∙ ap (count_by (lacks_block sections)) (sym all);
+      visits = visits ∙ sym (ends-count new.visits job store (expanded_by new.expanded) done);
+      missing = missing ∙ end.passing.missing.count ∙ ap (count_by (lacks_block store)) (sym all);
     }

@@ -49,8 +49,8 @@ beyond : (limit n : ℕ) → n ≡ limit → nat_lt limit (suc n) ≡ true
 beyond limit n h = grind (arith, nat_tests)
 
 -- before the first visit the roots wait
-pub begins : (job : JobMeaning) (expanded : Going) → IsFollowed job.selector → expanded ≡ nothing_expanded → IsTraversed 0 job [] expanded (map (root_link job.selector) job.roots)
-begins job expanded is none = record {
+pub begins : (job : JobMeaning) (store : Blocks) (expanded : Going) → IsFollowed job.selector → expanded ≡ nothing_expanded → IsTraversed 0 job store expanded (map (root_link job.selector) job.roots)
+begins job store expanded is none = record {
   low = omega arith;
   counted = refl;
   goes_on = λ other same m.

@@ -13,7 +13,7 @@ use Rattle.ix_walk.specs.Visits.{arrivals_of, is_over_limit}
 use Rattle.ix_archive.specs.Laws.{once}
 use Rattle.ix_receive.specs.declared.allow_missing.AllowMissing.{AllowMissing}
 use Rattle.ix_receive.specs.declared.fault.ReceiveFault.{ReceiveFault}
-use Rattle.ix_receive.specs.declared.fault.ReceiveFault.TheVariants.{Unsound, Repeated, OutOfOrder, NotAskedFor, Missing, Limit, Ended, Memory}
+use Rattle.ix_receive.specs.declared.fault.ReceiveFault.TheVariants.{Unsound, InBase, Repeated, OutOfOrder, NotAskedFor, Missing, Limit, Ended, Memory}
 use Rattle.ix_receive.specs.declared.traversal.Traversal.{Traversal}
 use Rattle.ix_receive.specs.Missing.{may_lack, lacks_block}
 use Rattle.ix_receive.specs.Traversal.{AreSound, visited, expanded_by, IsTraversed, links_of}
@@ -86,6 +86,7 @@ pub record IsFound (job : JobMeaning) (allowed : AllowMissing) (sections : Block
 -- it didn't come to a visit of the CID, for this reason
 abbrev pub IsNotFound : JobMeaning → AllowMissing → Blocks → List ℕ → ReceiveFault → Type 0
 IsNotFound job allowed sections c (Unsound v) = ⊥
+IsNotFound job allowed sections c InBase = ⊥
 IsNotFound job allowed sections c Repeated = ⊥
 IsNotFound job allowed sections c OutOfOrder = ⊥
 IsNotFound job allowed sections c NotAskedFor =
@@ -106,6 +107,7 @@ pub record IsAtEnd (job : JobMeaning) (allowed : AllowMissing) (sections : Block
 -- it didn't come to its end, for this reason
 abbrev pub IsNotAtEnd : JobMeaning → AllowMissing → Blocks → ReceiveFault → Type 0
 IsNotAtEnd job allowed sections (Unsound v) = ⊥
+IsNotAtEnd job allowed sections InBase = ⊥
 IsNotAtEnd job allowed sections Repeated = ⊥
 IsNotAtEnd job allowed sections OutOfOrder = ⊥
 IsNotAtEnd job allowed sections NotAskedFor = ⊥

@@ -9,6 +9,8 @@ use std::alloc::AllocError;
 pub enum ReceiveFault {
     /// The section isn't sound by itself: the verdict on it.
     Unsound(Verdict),
+    /// The base has the block of its CID.
+    InBase,
     /// A section under its CID has come before.
     Repeated,
     /// Its CID was visited before, when it was missing.

@@ -22,6 +22,7 @@
 #![tactic(auto)]
 
 mod allow_missing;
+mod base;
 mod counts;
 mod fault;
 pub mod law;

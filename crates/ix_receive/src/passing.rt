@@ -2,6 +2,7 @@
 
 ghost use Rattle.std.specs.Prelude.{◌≡◌, ◌+◌, ◌<◌, ◌^◌, IfOk, IfErr, OnOk, MatchOption};
 ghost use Rattle.std.specs.List.{Contains};
+ghost use Rattle.ix_receive.specs.Base.{store_of};
 ghost use Rattle.ix_receive.specs.Missing.{may_lack, lacks_block};
 ghost use Rattle.ix_receive.specs.Traversal.{as_pending, visited};
 ghost use Rattle.ix_receive.specs.Passing.{IsNoted, IsPassing, IsBefore, IsStopped, IsPassed, IsFound, IsNotFound, IsAtEnd, IsNotAtEnd};
@@ -15,9 +16,9 @@ use ix_verdict::{Needed, bytes_needed};
 use std::alloc::AllocError;
 use std::collections::BTreeSet;
 
-// Whether a CID could have a block, and none has come.
-fn lacks_block(sections: &Sections, cid: &Cid) -> bool
-    ensures { result ≡ lacks_block sections.now cid.now }
+// Whether a CID could have a block, and none is here.
+fn lacks_block(sections: &Sections<'_>, cid: &Cid) -> bool
+    ensures { result ≡ lacks_block (store_of sections.now) cid.now }
 {
     match bytes_needed(&cid.parts()) {
         Needed::Nothing(_) => false,
@@ -36,14 +37,14 @@ fn may_lack(asked: &Request<'_>, cid: &Cid) -> bool
 // Notes the visit of a CID, if its block is missing. Returns whether that may be.
 fn note_visit(
     asked: &Request<'_>,
-    sections: &Sections,
+    sections: &Sections<'_>,
     cid: &Cid,
     missing: &mut BTreeSet<Cid>,
     absent: &mut u32,
 ) -> Result<bool, AllocError>
     requires { absent.old + 1 < 2 ^ 32 }
-    ensures { IfOk result (IsNoted asked.now.allowed asked.now.job.now.roots sections.now cid.now
-        missing.old absent.old missing.new absent.new) }
+    ensures { IfOk result (IsNoted asked.now.allowed asked.now.job.now.roots
+        (store_of sections.now) cid.now missing.old absent.old missing.new absent.new) }
 {
     if !lacks_block(sections, cid) {
         return Ok(true);
@@ -59,15 +60,16 @@ fn note_visit(
 // Visits a link, unless its block is missing and may not be: returns its CID then.
 fn pass_link<'s>(
     asked: &Request<'s>,
-    sections: &Sections,
+    sections: &Sections<'_>,
     link: WaitingLink<'s>,
     t: &mut Traversal<'s>,
 ) -> Result<Option<Cid>, AllocError>
     requires few { t.old.visits + 1 < 2 ^ 32 }
-    requires before { IsBefore asked.now.job.now asked.now.allowed sections.now (as_pending link) t.old }
+    requires before { IsBefore asked.now.job.now asked.now.allowed (store_of sections.now)
+        (as_pending link) t.old }
     ensures { IfOk result (λ o. MatchOption o
-        (IsPassed asked.now.job.now asked.now.allowed sections.now (as_pending link.entry) t.old t.new)
-        (IsStopped asked.now.job.now asked.now.allowed sections.now (as_pending link.entry) t.old)) }
+        (IsPassed asked.now.job.now asked.now.allowed (store_of sections.now) (as_pending link.entry) t.old t.new)
+        (IsStopped asked.now.job.now asked.now.allowed (store_of sections.now) (as_pending link.entry) t.old)) }
 {
     let passes = note_visit(asked, sections, &link.cid, &mut t.missing, &mut t.absent)?;
     if !passes {
@@ -86,15 +88,17 @@ fn pass_link<'s>(
 // Goes on to the first visit of a CID, and returns its link.
 pub(crate) fn advance_to<'s>(
     asked: &Request<'s>,
-    sections: &Sections,
+    sections: &Sections<'_>,
     cid: &Cid,
     t: &mut Traversal<'s>,
 ) -> Result<WaitingLink<'s>, ReceiveFault>
-    requires passing { IsPassing asked.now.job.now asked.now.allowed sections.now t.old }
-    requires first { Contains (visited t.old.visits asked.now.job.now sections.now) cid.now → ⊥ }
-    ensures found { IfOk result (λ link. IsFound asked.now.job.now asked.now.allowed sections.now cid.now
-        (as_pending link) t.old t.new) }
-    ensures refused { IfErr result (IsNotFound asked.now.job.now asked.now.allowed sections.now cid.now) }
+    requires passing { IsPassing asked.now.job.now asked.now.allowed (store_of sections.now) t.old }
+    requires first { Contains (visited t.old.visits asked.now.job.now (store_of sections.now))
+        cid.now → ⊥ }
+    ensures found { IfOk result (λ link. IsFound asked.now.job.now asked.now.allowed
+        (store_of sections.now) cid.now (as_pending link) t.old t.new) }
+    ensures refused { IfErr result (IsNotFound asked.now.job.now asked.now.allowed
+        (store_of sections.now) cid.now) }
 {
     while let Some(link) = next_link(asked, &mut t.links, &mut t.roots)? {
         if t.visits == asked.job.limit() {
@@ -113,12 +117,14 @@ pub(crate) fn advance_to<'s>(
 // Goes on to the end.
 pub(crate) fn pass_all<'s>(
     asked: &Request<'s>,
-    sections: &Sections,
+    sections: &Sections<'_>,
     t: &mut Traversal<'s>,
 ) -> Result<(), ReceiveFault>
-    requires { IsPassing asked.now.job.now asked.now.allowed sections.now t.old }
-    ensures whole { OnOk result (IsAtEnd asked.now.job.now asked.now.allowed sections.now t.old t.new) }
-    ensures refused { IfErr result (IsNotAtEnd asked.now.job.now asked.now.allowed sections.now) }
+    requires { IsPassing asked.now.job.now asked.now.allowed (store_of sections.now) t.old }
+    ensures whole { OnOk result (IsAtEnd asked.now.job.now asked.now.allowed
+        (store_of sections.now) t.old t.new) }
+    ensures refused { IfErr result (IsNotAtEnd asked.now.job.now asked.now.allowed
+        (store_of sections.now)) }
 {
     while let Some(link) = next_link(asked, &mut t.links, &mut t.roots)? {
         if t.visits == asked.job.limit() {

@@ -1,22 +1,22 @@
 //! The receiver.
 
 ghost use Rattle.std.specs.Prelude.{◌≡◌, true, false, map, IfOk, IfErr, OnOk, OnErr};
+ghost use Rattle.ix_receive.specs.Base.{known_blocks};
 ghost use Rattle.ix_receive.specs.Keeping.{kept_of};
-ghost use Rattle.ix_archive.specs.Archive.{is_sound};
-ghost use Rattle.ix_receive.specs.Reception.{nothing_received, IsReceiving, IsReceived, Receives, reception_of, IsRefused, IsRightlyRefused, IsWhole, IsUnfinished};
+ghost use Rattle.ix_receive.specs.Reception.{nothing_received, nothing_received_with, IsReceiving, IsReceived, Receives, reception_with, IsRefused, IsRightlyRefused, IsWhole, IsUnfinished};
 
 use crate::allow_missing::AllowMissing;
+use crate::base::Base;
 use crate::counts::Counts;
 use crate::fault::ReceiveFault;
 use crate::passing::{advance_to, pass_all};
 use crate::request::Request;
-use crate::section::verdict_on;
+use crate::section::{is_sound, verdict_on};
 use crate::sections::Sections;
 use crate::traversal::{Traversal, expand_link};
 use ix_cid::Cid;
 use ix_selector::law;
 use ix_store::Store;
-use ix_verdict::Verdict;
 use ix_walk::Job;
 use std::alloc::Global;
 use std::collections::BTreeSet;
@@ -30,7 +30,7 @@ use std::marker::Model;
 /// CID.
 pub struct Receiver<'s> {
     asked: Request<'s>,
-    sections: Sections,
+    sections: Sections<'s>,
     traversal: Traversal<'s>,
     ended: bool,
 }
@@ -58,49 +58,40 @@ impl<'s> Model for Receiver<'s> {
     ghost coded = { coded_reception };
 
     ghost use Rattle.std.specs.Prelude.{◌≡◌, false};
-    ghost use Rattle.ix_receive.specs.Reception.{reception_of, IsReceiving};
+    ghost use Rattle.ix_receive.specs.Reception.{reception_with, IsReceiving};
 
-    ghost view = { λ r. reception_of r.asked.job.now r.asked.allowed r.sections r.traversal.visits r.ended };
+    ghost view = { λ r. reception_with r.sections.0 r.asked.job.now r.asked.allowed r.sections.1
+        r.traversal.visits r.ended };
 
-    ghost invariant = { λ r. r.ended ≡ false → IsReceiving r.asked.job.now r.asked.allowed r.sections r.traversal };
+    ghost invariant = { λ r. r.ended ≡ false
+        → IsReceiving r.sections.0 r.asked.job.now r.asked.allowed r.sections.1 r.traversal };
 }
 
-// Whether a section with this verdict is sound.
-fn is_sound(verdict: Verdict) -> bool
-    ensures { result ≡ is_sound verdict }
-{
-    match verdict {
-        Verdict::Sound => true,
-        Verdict::Codec
-        | Verdict::Hash
-        | Verdict::Missing
-        | Verdict::Damaged
-        | Verdict::Malformed
-        | Verdict::Inline => false,
-    }
-}
-
-// Receives the next section, if it is sound, and the first visit of its CID is still to come.
+// Receives the next section, if it is sound, the base doesn't have its block, and the first visit of its
+// CID is still to come.
 fn receive<'s>(
     asked: &Request<'s>,
-    sections: &mut Sections,
+    sections: &mut Sections<'s>,
     t: &mut Traversal<'s>,
     cid: Cid,
     block: &[u8],
 ) -> Result<(), ReceiveFault>
-    requires { IsReceiving asked.now.job.now asked.now.allowed sections.old t.old }
+    requires { IsReceiving sections.old.0 asked.now.job.now asked.now.allowed sections.old.1 t.old }
     ensures received { OnOk result (IsReceived asked.now.job.now asked.now.allowed sections.old t.old.visits
         (cid, block.now) sections.new t.new) }
-    ensures refused { IfErr result (IsRefused
-        (reception_of asked.now.job.now asked.now.allowed sections.old t.old.visits false) (cid, block.now)) }
-    ensures rightly { IfErr result (IsRightlyRefused
-        (reception_of asked.now.job.now asked.now.allowed sections.old t.old.visits false) (cid, block.now)) }
+    ensures refused { IfErr result (IsRefused (reception_with sections.old.0 asked.now.job.now
+        asked.now.allowed sections.old.1 t.old.visits false) (cid, block.now)) }
+    ensures rightly { IfErr result (IsRightlyRefused (reception_with sections.old.0
+        asked.now.job.now asked.now.allowed sections.old.1 t.old.visits false) (cid, block.now)) }
 {
     let verdict = verdict_on(&cid, block);
     if !is_sound(verdict) {
         return Err(ReceiveFault::Unsound(verdict));
     }
-    if sections.has(&cid) {
+    if sections.is_in_base(&cid) {
+        return Err(ReceiveFault::InBase);
+    }
+    if sections.has_come(&cid) {
         return Err(ReceiveFault::Repeated);
     }
     if t.missing.contains(&cid) {
@@ -120,15 +111,36 @@ impl<'s> Receiver<'s> {
     pub fn new(alloc: Global, job: &'s Job, allowed: AllowMissing) -> Receiver<'s>
         ensures { result ≡ nothing_received job.now allowed }
     {
+        Receiver::over(alloc, job, allowed, Base::none())
+    }
+
+    /// Creates a receiver that has a base: the blocks of a store whose first copy is sound. The archive is
+    /// the difference, without them. A damaged block of the store has to come.
+    pub fn with_base(
+        alloc: Global,
+        job: &'s Job,
+        allowed: AllowMissing,
+        base: &'s Store,
+    ) -> Receiver<'s>
+        ensures { result ≡ nothing_received_with (known_blocks base.now) job.now allowed }
+    {
+        Receiver::over(alloc, job, allowed, Base::of(base))
+    }
+
+    // Creates a receiver with a base.
+    fn over(alloc: Global, job: &'s Job, allowed: AllowMissing, base: Base<'s>) -> Receiver<'s>
+        ensures { result ≡ nothing_received_with base.entry job.now allowed }
+    {
         law::residual_is_the_rest();
         law::selector_is_one(job.selector());
+        base.is_sound();
         Receiver {
             asked: Request {
                 alloc,
                 job,
                 allowed,
             },
-            sections: Sections::new(alloc),
+            sections: Sections::new(alloc, base),
             traversal: Traversal {
                 expanded: BTreeSet::new(alloc),
                 links: Vec::new(alloc),

@@ -3,6 +3,7 @@
 ghost use Rattle.std.specs.Prelude.{◌≡◌, ◌&&◌, ◌==◌, Some, is_none};
 ghost use Rattle.ix_cbor.specs.Reading.{data_at};
 ghost use Rattle.ix_verdict.specs.Verdict.{verdict_with};
+ghost use Rattle.ix_archive.specs.Archive.{is_sound};
 
 use ix_cid::code::DAG_CBOR;
 use ix_cid::{Cid, Parts};
@@ -21,6 +22,21 @@ pub(crate) fn verdict_on(cid: &Cid, block: &[u8]) -> Verdict
             let matches = has_digest(function, parts.digest, block);
             Verdict::of_block(matches, matches && is_malformed_in(&parts, block))
         }
+    }
+}
+
+// Whether a section with this verdict is sound.
+pub(crate) fn is_sound(verdict: Verdict) -> bool
+    ensures { result ≡ is_sound verdict }
+{
+    match verdict {
+        Verdict::Sound => true,
+        Verdict::Codec
+        | Verdict::Hash
+        | Verdict::Missing
+        | Verdict::Damaged
+        | Verdict::Malformed
+        | Verdict::Inline => false,
     }
 }
 

@@ -1,11 +1,14 @@
-//! The sections that have come, of which DAG-CBOR blocks alone are kept.
+//! The blocks that a receiver has: those of its base, and the sections that have come, of which DAG-CBOR
+//! blocks alone are kept.
 
 ghost use Rattle.std.specs.Prelude.{◌≡◌, false, [], ◌∷◌, ◌++◌, map, IfSome, OnOk};
 ghost use Rattle.ix_store.specs.Store.{has_cid, value_of};
 ghost use Rattle.ix_walk.specs.Arriving.{IsValue};
 ghost use Rattle.ix_walk.specs.Descent.{IsItem};
 ghost use Rattle.ix_receive.specs.Keeping.{kept_of};
+ghost use Rattle.ix_receive.specs.Base.{store_of};
 
+use crate::base::Base;
 use ix_check::History;
 use ix_cid::Cid;
 use ix_cid::code::DAG_CBOR;
@@ -46,9 +49,11 @@ impl PastSection {
     }
 }
 
-// The sections that have come, each with its block as contracts see it. Of a leaf the CID alone is
-// kept, since its block has no links.
-pub(crate) struct Sections {
+// A base, and the sections that have come, each with its block as contracts see it. Of a leaf the CID
+// alone is kept, since its block has no links.
+pub(crate) struct Sections<'s> {
+    // Of the blocks here, those of the base come first.
+    base: Base<'s>,
     // The sections, those of leaves with no bytes.
     kept: Store,
     // The sections as they came, for contracts only.
@@ -56,21 +61,25 @@ pub(crate) struct Sections {
 }
 
 // Written by hand: a derived drop is inlined in each function that drops one, at each of its exits.
-impl Drop for Sections {
+impl<'s> Drop for Sections<'s> {
     fn drop(self) {
-        let Sections { kept, history } = self;
+        let Sections {
+            base: _,
+            kept,
+            history,
+        } = self;
         drop(kept);
         drop(history);
     }
 }
 
-impl Model for Sections {
+impl<'s> Model for Sections<'s> {
     ghost use Rattle.std.specs.Prelude.{◌≡◌, List, ℕ, map};
     ghost use Rattle.ix_receive.specs.Keeping.{kept_of};
 
-    ghost Value = { List (List ℕ × List ℕ) };
+    ghost Value = { List (List ℕ × List ℕ) × List (List ℕ × List ℕ) };
 
-    ghost view = { λ s. s.history };
+    ghost view = { λ s. (s.base, s.history) };
 
     ghost invariant = { λ s. s.kept ≡ map kept_of s.history };
 }
@@ -82,39 +91,64 @@ fn kept_bytes<'a>(cid: &Cid, block: &'a [u8]) -> &'a [u8]
     if cid.codec() == DAG_CBOR { block } else { &[] }
 }
 
-impl Sections {
+impl<'s> Sections<'s> {
     // Creates the sections of an archive of which none has come.
-    pub(crate) fn new(alloc: Global) -> Sections
-        ensures { result ≡ [] }
+    pub(crate) fn new(alloc: Global, base: Base<'s>) -> Sections<'s>
+        ensures { result ≡ (base.entry, []) }
     {
         Sections {
+            base,
             kept: Store::new(alloc),
             history: History::new(),
         }
     }
 
+    // Whether the base has the block of a CID.
+    pub(crate) fn is_in_base(&self, cid: &Cid) -> bool
+        ensures { result ≡ has_cid self.now.0 cid.now }
+    {
+        self.base.store_with(cid).is_some()
+    }
+
     // Whether the section of a CID has come.
-    pub(crate) fn has(&self, cid: &Cid) -> bool
-        ensures { result ≡ has_cid self.now cid.now }
+    pub(crate) fn has_come(&self, cid: &Cid) -> bool
+        ensures { result ≡ has_cid self.now.1 cid.now }
     {
         self.kept.find(cid).is_some()
     }
 
-    // Returns the DAG-CBOR that a CID names: that inline in it (an identity CID), or the block of
-    // its section.
+    // Whether there is a block of a CID.
+    pub(crate) fn has(&self, cid: &Cid) -> bool
+        ensures { result ≡ has_cid (store_of self.now) cid.now }
+    {
+        self.is_in_base(cid) || self.has_come(cid)
+    }
+
+    // Returns the store that has the block of a CID, if there is one.
+    fn store_with(&self, cid: &Cid) -> &Store
+        ensures { value_of result.now cid.now ≡ value_of (store_of self.now) cid.now }
+    {
+        match self.base.store_with(cid) {
+            Some(store) => store,
+            None => &self.kept,
+        }
+    }
+
+    // Returns the DAG-CBOR that a CID names: that inline in it (an identity CID), or its block.
     pub(crate) fn read<'a>(&'a self, cid: &'a Cid) -> Option<Cursor<'a>>
-        ensures value { IsValue (value_of self.now cid.now) result }
+        ensures value { IsValue (value_of (store_of self.now) cid.now) result }
         ensures item { IfSome result (λ b. IsItem b) }
     {
-        let block = self.kept.find(cid);
-        let (bytes, _) = read_block(&self.kept, &cid.by_ref(), block);
+        let store = self.store_with(cid);
+        let block = store.find(cid);
+        let (bytes, _) = read_block(store, &cid.by_ref(), block);
         bytes
     }
 
     // Adds a section, with the bytes of its block unless that is a leaf.
     pub(crate) fn add(&mut self, cid: Cid, block: &[u8]) -> Result<(), AllocError>
-        requires { has_cid self.old cid ≡ false }
-        ensures { OnOk result (self.new ≡ self.old ++ (cid, block.now) ∷ []) }
+        requires { has_cid self.old.1 cid ≡ false }
+        ensures { OnOk result (self.new ≡ (self.old.0, self.old.1 ++ (cid, block.now) ∷ [])) }
     {
         let section = PastSection::of(&cid, block);
         let bytes = kept_bytes(&cid, block);
@@ -125,9 +159,13 @@ impl Sections {
 
     // Returns what is kept of the sections.
     pub(crate) fn into_kept(self) -> Store
-        ensures { result ≡ map kept_of self }
+        ensures { result ≡ map kept_of self.1 }
     {
-        let Sections { kept, history } = self;
+        let Sections {
+            base: _,
+            kept,
+            history,
+        } = self;
         drop(history);
         kept
     }

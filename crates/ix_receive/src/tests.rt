@@ -4,6 +4,7 @@ use crate::{AllowMissing, ReceiveFault, Receiver};
 use ix_cbor::decode;
 use ix_cid::Cid;
 use ix_selector::Selector;
+use ix_store::Store;
 use ix_walk::Job;
 use std::alloc::Global;
 use std::test::Fail;
@@ -76,6 +77,7 @@ fn job_of(alloc: Global, root: &str, limit: u32) -> Result<Job, Fail> {
 fn word(alloc: Global, fault: &ReceiveFault) -> Result<String, Fail> {
     let word = match fault {
         ReceiveFault::Unsound(verdict) => format!(in alloc; "{verdict}"),
+        ReceiveFault::InBase => format!(in alloc; "in the base"),
         ReceiveFault::Repeated => format!(in alloc; "repeated"),
         ReceiveFault::OutOfOrder => format!(in alloc; "out of order"),
         ReceiveFault::NotAskedFor => format!(in alloc; "not asked for"),
@@ -99,7 +101,12 @@ fn found(
     sections: &[Pair],
 ) -> Result<String, Fail> {
     let job = job_of(alloc, root, limit)?;
-    let mut receiver = Receiver::new(alloc, &job, allowed);
+    found_by(alloc, Receiver::new(alloc, &job, allowed), sections)
+}
+
+// The same by a receiver.
+fn found_by(alloc: Global, receiver: Receiver<'_>, sections: &[Pair]) -> Result<String, Fail> {
+    let mut receiver = receiver;
     for (place, (cid, block)) in sections.iter().enumerate() {
         let block = hex::decode(alloc, *block)?;
         if let Err(fault) = receiver.offer(cid_of(alloc, cid)?, block.as_slice()) {
@@ -124,6 +131,17 @@ fn chain(alloc: Global, sections: &[Pair]) -> Result<String, Fail> {
     found(alloc, OUTER.0, 10, AllowMissing::none(), sections)
 }
 
+// The same where a base has these blocks.
+fn chain_with(alloc: Global, base: &[Pair], sections: &[Pair]) -> Result<String, Fail> {
+    let job = job_of(alloc, OUTER.0, 10)?;
+    let mut store = Store::new(alloc);
+    for (cid, block) in base {
+        store.add(cid_of(alloc, cid)?, hex::decode(alloc, *block)?)?;
+    }
+    let receiver = Receiver::with_base(alloc, &job, AllowMissing::none(), &store);
+    found_by(alloc, receiver, sections)
+}
+
 // The same for the graph, where any may.
 fn graph(alloc: Global, sections: &[Pair]) -> Result<String, Fail> {
     found(alloc, GRAPH, 10, AllowMissing::all(), sections)
@@ -134,6 +152,33 @@ fn a_chain(rt: HostRuntime) -> Result<(), Fail> {
     let alloc = rt.alloc();
     let whole = chain(alloc, &[OUTER, INNER, NODE, LEAF])?;
     assert_eq!(rt; whole.as_str(), "4 visits, 0 missing");
+    Ok(())
+}
+
+#[test]
+fn a_chain_with_a_base(rt: HostRuntime) -> Result<(), Fail> {
+    let alloc = rt.alloc();
+    let rest = chain_with(alloc, &[INNER, LEAF], &[OUTER, NODE])?;
+    assert_eq!(rt; rest.as_str(), "4 visits, 0 missing");
+    let nothing = chain_with(alloc, &[OUTER, INNER, NODE, LEAF], &[])?;
+    assert_eq!(rt; nothing.as_str(), "4 visits, 0 missing");
+    let more = chain_with(alloc, &[INNER, LEAF], &[OUTER, INNER, NODE])?;
+    assert_eq!(rt; more.as_str(), "1: in the base");
+    Ok(())
+}
+
+// A damaged copy in a base is as if it were absent.
+#[test]
+fn a_chain_with_a_damaged_base(rt: HostRuntime) -> Result<(), Fail> {
+    let alloc = rt.alloc();
+    let base = [(INNER.0, NODE.1), LEAF];
+    let whole = chain_with(alloc, base.as_slice(), &[OUTER, INNER, NODE])?;
+    assert_eq!(rt; whole.as_str(), "4 visits, 0 missing");
+    let less = chain_with(alloc, base.as_slice(), &[OUTER, NODE])?;
+    assert_eq!(rt;
+        less.as_str(),
+        "1: missing 248ca8088499858ab449f8b907c08d937fb35dfa39d875f2b052805320b1bb91"
+    );
     Ok(())
 }
 

@@ -2,6 +2,7 @@
 
 ghost use Rattle.std.specs.Prelude.{◌≡◌, ◌+◌, ◌<◌, ◌^◌, map, option_map, IfOk, IfSome, OnOk};
 ghost use Rattle.ix_lists.specs.Waiting.{IsPutBefore, IsNextLink};
+ghost use Rattle.ix_receive.specs.Base.{store_of};
 ghost use Rattle.ix_receive.specs.Traversal.{as_pending, AreSound, Expands};
 
 use crate::request::Request;
@@ -95,14 +96,14 @@ pub(crate) fn next_link<'s>(
 // expanded with this residual.
 pub(crate) fn expand_link<'s>(
     alloc: Global,
-    sections: &Sections,
+    sections: &Sections<'_>,
     link: WaitingLink<'s>,
     expanded: &mut BTreeSet<(Cid, Residual<'s>)>,
     waiting: &mut Vec<WaitingLink<'s>>,
 ) -> Result<(), AllocError>
     requires depth { link.depth + 1 < 2 ^ 32 }
-    requires sound { AreSound sections.now }
-    ensures { OnOk result (Expands sections.now (as_pending link.entry) expanded.old
+    requires sound { AreSound (store_of sections.now) }
+    ensures { OnOk result (Expands (store_of sections.now) (as_pending link.entry) expanded.old
         (map as_pending waiting.old.items) expanded.new (map as_pending waiting.new.items)) }
 {
     let WaitingLink {

@@ -126,6 +126,10 @@ fn refusal(
     };
     let (word, after) = match fault {
         ReceiveFault::Unsound(verdict) => (format!(in alloc; "{verdict}")?, ""),
+        ReceiveFault::InBase => (
+            String::from_str(alloc, "known")?,
+            ": a file of --with has it",
+        ),
         ReceiveFault::Repeated => (
             String::from_str(alloc, "repeated")?,
             ": it came before; ask for dups=n",

@@ -1,4 +1,4 @@
-use Rattle.std.proofs.Common.{◌≡◌, ◌∙◌, ap}
+use Rattle.std.proofs.Common.{◌≡◌, [], ◌∙◌, ap}
 use Rattle.ix_car.specs.Writing.{header_of}
 use Rattle.ix_own_archive.proofs.Headers.{begins-with, lacks-header, header-fault}
 use Rattle.ix_own_archive.proofs.Rightly.{header-not}
@@ -12,11 +12,11 @@ check_sections-requires c =
 pub returns-clause-fault : goal.returns-clause-fault
 returns-clause-fault c =
     let header : c.as_slice.result.now ≡ header_of c.args.job.now.roots = c.as_slice.ensures.value ∙ c.in-Ok.ensures ∙ ap header_of c.roots.ensures in
-    header-fault c.args.job.now c.args.allowed c.args.archive.now c.header_reason.result
+    header-fault [] c.args.job.now c.args.allowed c.args.archive.now c.header_reason.result
     (lacks-header c.args.archive.now c.as_slice.result.now (header_of c.args.job.now.roots) header c.in-None.ensures.cases) c.header_reason.ensures
 
 pub returns-clause-rightly : goal.returns-clause-rightly
 returns-clause-rightly c =
     let header : c.as_slice.result.now ≡ header_of c.args.job.now.roots = c.as_slice.ensures.value ∙ c.in-Ok.ensures ∙ ap header_of c.roots.ensures in
-    header-not c.args.job.now c.args.archive.now c.header_reason.result
+    header-not [] c.args.job.now c.args.archive.now c.header_reason.result
     (lacks-header c.args.archive.now c.as_slice.result.now (header_of c.args.job.now.roots) header c.in-None.ensures.cases) c.header_reason.ensures

@@ -18,7 +18,7 @@ returns-then-not-is_empty-clause-cut c =
     let parts : 0 < c.args.bytes.now.parts = omega (arith, c.if-parts-eq0.false, c.parts.ensures) in
     let other : length c.rest-rest.result.now ≡ 0 → ⊥ = eqb-false (length c.rest-rest.result.now) 0 (sym c.is_empty.ensures ∙ c.if-not-is_empty.true) in
     let some : 0 < length c.args.bytes.now.rest = subst (λ l. 0 < length l) c.rest-rest.ensures (omega (arith, other)) in
-    end-within (asked_of c.args.request.now) c.args.bytes.now c.args.receiver.now c.received_one_by_one.ensures.each roots some parts c.requires
+    end-within (asked_of c.args.request.now) c.args.bytes.now c.args.receiver.now (c.received_one_by_one.ensures.each (asked_of c.args.request.now).base) roots some parts c.requires
 
 pub returns-in-Ok-clause-whole : goal.returns-in-Ok-clause-whole
 returns-in-Ok-clause-whole c =
@@ -33,4 +33,4 @@ returns-in-Err-clause-cut c =
     let parts : 0 < c.args.bytes.now.parts = omega (arith, c.if-parts-eq0.false, c.parts.ensures) in
     let has = kept-within (asked_of c.args.request.now) c.args.bytes.now c.args.receiver.now parts c.requires in
     let none : c.args.bytes.now.rest ≡ [] = sym c.rest-rest.ensures ∙ nil_from_length c.rest-rest.result.now (eqb-true (length c.rest-rest.result.now) 0 (sym c.is_empty.ensures ∙ c.if-not-is_empty.false)) in
-    unfinished-stream (asked_of c.args.request.now) c.args.bytes.now.checked c.args.bytes.now.rest c.args.receiver.now has.0.bytes none c.in-Err.fault c.received_one_by_one.ensures.each roots c.in-Err.ensures.refused
+    unfinished-stream (asked_of c.args.request.now) c.args.bytes.now.checked c.args.bytes.now.rest c.args.receiver.now has.0.bytes none c.in-Err.fault (c.received_one_by_one.ensures.each (asked_of c.args.request.now).base) roots c.in-Err.ensures.refused

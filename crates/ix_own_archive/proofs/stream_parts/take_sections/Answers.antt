@@ -23,5 +23,5 @@ pub returns-in-Err-clause-stops : goal.returns-in-Err-clause-stops
 returns-in-Err-clause-stops c =
     let asked = asked_of c.args.request.now in
     let roots = subst (AllByRecursion IsCid) c.roots.ensures c.roots_are_cids.ensures in
-    stops-here asked c.loop-length.bytes c.loop-length.receiver c.in-Err.reason c.received_one_by_one.ensures.each roots c.loop-length.invariant.1
+    stops-here asked c.loop-length.bytes c.loop-length.receiver c.in-Err.reason (c.received_one_by_one.ensures.each asked.base) roots c.loop-length.invariant.1
     (subst (λ (l : List ℕ). IsNotNext asked.limits.section l c.loop-length.receiver c.in-Err.reason) c.rest.ensures c.in-Err.ensures.refused)

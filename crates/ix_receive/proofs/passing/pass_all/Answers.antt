@@ -1,6 +1,7 @@
 use Rattle.std.proofs.Common.{List, ℕ, map, sym, ◌∙◌, subst, refl, arith}
 use Rattle.std.specs.Prelude.{Option, MatchOption, option_map}
 use Rattle.ix_lists.specs.Waiting.{IsNextLink}
+use Rattle.ix_receive.specs.Base.{store_of}
 use Rattle.ix_receive.specs.declared.traversal.WaitingLink.{WaitingLink}
 use Rattle.ix_receive.specs.declared.traversal.Traversal.{Traversal}
 use Rattle.ix_receive.specs.Traversal.{as_pending, expanded_by, IsTraversed}
@@ -12,7 +13,7 @@ pub returns-then-t-limit-clause-refused : goal.returns-then-t-limit-clause-refus
 returns-then-t-limit-clause-refused c =
     let job = c.args.asked.now.job.now in
     let allowed = c.args.asked.now.allowed in
-    let s = c.args.sections.now in
+    let s = store_of c.args.sections.now in
     let t : Traversal = c.loop-link.t in
     let u : Traversal = record { expanded = t.expanded; links = c.next_link.new.links; roots = c.next_link.new.roots; visits = t.visits; missing = t.missing; absent = t.absent } in
     let next = subst (λ (o : Option WaitingLink). IsNextLink job.selector (map as_pending t.links.items) t.roots.now (option_map as_pending o) (map as_pending u.links.items) u.roots.now) c.in-Some.is c.in_ok-link.ensures in
@@ -22,7 +23,7 @@ pub pass_link-requires-clause-few : goal.pass_link-requires-clause-few
 pass_link-requires-clause-few c =
     let job = c.args.asked.now.job.now in
     let allowed = c.args.asked.now.allowed in
-    let s = c.args.sections.now in
+    let s = store_of c.args.sections.now in
     let t : Traversal = c.loop-link.t in
     let u : Traversal = record { expanded = t.expanded; links = c.next_link.new.links; roots = c.next_link.new.roots; visits = t.visits; missing = t.missing; absent = t.absent } in
     let next = subst (λ (o : Option WaitingLink). IsNextLink job.selector (map as_pending t.links.items) t.roots.now (option_map as_pending o) (map as_pending u.links.items) u.roots.now) c.in-Some.is c.in_ok-link.ensures in
@@ -35,7 +36,7 @@ pub pass_link-requires-clause-before : goal.pass_link-requires-clause-before
 pass_link-requires-clause-before c =
     let job = c.args.asked.now.job.now in
     let allowed = c.args.asked.now.allowed in
-    let s = c.args.sections.now in
+    let s = store_of c.args.sections.now in
     let t : Traversal = c.loop-link.t in
     let u : Traversal = record { expanded = t.expanded; links = c.next_link.new.links; roots = c.next_link.new.roots; visits = t.visits; missing = t.missing; absent = t.absent } in
     let next = subst (λ (o : Option WaitingLink). IsNextLink job.selector (map as_pending t.links.items) t.roots.now (option_map as_pending o) (map as_pending u.links.items) u.roots.now) c.in-Some.is c.in_ok-link.ensures in
@@ -45,7 +46,7 @@ pub returns-in-Some-2-clause-refused : goal.returns-in-Some-2-clause-refused
 returns-in-Some-2-clause-refused c =
     let job = c.args.asked.now.job.now in
     let allowed = c.args.asked.now.allowed in
-    let s = c.args.sections.now in
+    let s = store_of c.args.sections.now in
     let t : Traversal = c.loop-link.t in
     let f = as_pending c.in-Some.link in
     let u : Traversal = record { expanded = t.expanded; links = c.next_link.new.links; roots = c.next_link.new.roots; visits = t.visits; missing = t.missing; absent = t.absent } in
@@ -56,7 +57,7 @@ pub loop-link-preserved : goal.loop-link-preserved
 loop-link-preserved c =
     let job = c.args.asked.now.job.now in
     let allowed = c.args.asked.now.allowed in
-    let s = c.args.sections.now in
+    let s = store_of c.args.sections.now in
     let t : Traversal = c.loop-link.t in
     let f = as_pending c.in-Some.link in
     let u : Traversal = record { expanded = t.expanded; links = c.next_link.new.links; roots = c.next_link.new.roots; visits = t.visits; missing = t.missing; absent = t.absent } in
@@ -69,7 +70,7 @@ pub returns-clause-whole : goal.returns-clause-whole
 returns-clause-whole c =
     let job = c.args.asked.now.job.now in
     let allowed = c.args.asked.now.allowed in
-    let s = c.args.sections.now in
+    let s = store_of c.args.sections.now in
     let t : Traversal = c.loop-link.t in
     let u : Traversal = record { expanded = t.expanded; links = c.next_link.new.links; roots = c.next_link.new.roots; visits = t.visits; missing = t.missing; absent = t.absent } in
     let next = subst (λ (o : Option WaitingLink). IsNextLink job.selector (map as_pending t.links.items) t.roots.now (option_map as_pending o) (map as_pending u.links.items) u.roots.now) c.in_default.is c.in_ok-link.ensures in

@@ -1,4 +1,5 @@
 use Rattle.std.proofs.Common.{◌+◌, subst, refl, arith}
+use Rattle.ix_receive.specs.Base.{store_of}
 use Rattle.ix_receive.specs.declared.traversal.Traversal.{Traversal}
 use Rattle.ix_receive.specs.Traversal.{as_pending, expanded_by}
 use Rattle.ix_receive.specs.Passing.{IsNoted}
@@ -10,7 +11,7 @@ note_visit-requires c =
     let t = c.args.t.now in
     let few = c.requires.few in
     let before = c.requires.before in
-    let least = few-absent t.visits c.args.asked.now.job.now c.args.asked.now.allowed c.args.sections.now t.missing t.absent _ (expanded_by t.expanded) before.traversed before.missing in
+    let least = few-absent t.visits c.args.asked.now.job.now c.args.asked.now.allowed (store_of c.args.sections.now) t.missing t.absent _ (expanded_by t.expanded) before.traversed before.missing in
     omega (arith, few, least)
 
 pub returns-then-not-passes : goal.returns-then-not-passes
@@ -18,8 +19,8 @@ returns-then-not-passes c =
     let job = c.args.asked.now.job.now in
     let allowed = c.args.asked.now.allowed in
     let t = c.args.t.now in
-    stops job allowed c.args.sections.now (as_pending c.args.link) t c.requires.before
-    (subst (IsNoted allowed job.roots c.args.sections.now c.args.link.cid t.missing t.absent c.note_visit.new.missing c.note_visit.new.absent) c.if-not-passes.true c.in_ok-passes.ensures)
+    stops job allowed (store_of c.args.sections.now) (as_pending c.args.link) t c.requires.before
+    (subst (IsNoted allowed job.roots (store_of c.args.sections.now) c.args.link.cid t.missing t.absent c.note_visit.new.missing c.note_visit.new.absent) c.if-not-passes.true c.in_ok-passes.ensures)
 
 pub expand_link-requires-clause-depth : goal.expand_link-requires-clause-depth
 expand_link-requires-clause-depth c =
@@ -33,6 +34,6 @@ returns c =
     let allowed = c.args.asked.now.allowed in
     let t : Traversal = c.args.t.now in
     let u : Traversal = record { expanded = c.expand_link.new.expanded; links = c.expand_link.new.waiting; roots = t.roots; visits = t.visits + 1; missing = c.note_visit.new.missing; absent = c.note_visit.new.absent } in
-    passes job allowed c.args.sections.now (as_pending c.args.link) t u c.requires.before
-    (subst (IsNoted allowed job.roots c.args.sections.now c.args.link.cid t.missing t.absent c.note_visit.new.missing c.note_visit.new.absent) c.if-not-passes.false c.in_ok-passes.ensures)
+    passes job allowed (store_of c.args.sections.now) (as_pending c.args.link) t u c.requires.before
+    (subst (IsNoted allowed job.roots (store_of c.args.sections.now) c.args.link.cid t.missing t.absent c.note_visit.new.missing c.note_visit.new.absent) c.if-not-passes.false c.in_ok-passes.ensures)
     c.in_ok-expand_link.ensures refl refl

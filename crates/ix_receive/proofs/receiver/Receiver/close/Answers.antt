@@ -15,7 +15,7 @@ returns-in_err-pass_all-clause-refused c =
     let p = err_from_is_err_and c.from_residual.result c.from_residual.ensures.1 in
     rw (p.1, p.2)
     (subst (λ v. IsUnfinished v c.in_err-pass_all.field-0.0) c.self.view_is
-    (unfinished r.asked.job.now r.asked.allowed r.sections r.traversal.visits r.ended c.in_err-pass_all.field-0.0 c.in_err-pass_all.ensures.refused))
+    (unfinished r.sections.0 r.asked.job.now r.asked.allowed r.sections.1 r.traversal.visits r.ended c.in_err-pass_all.field-0.0 c.in_err-pass_all.ensures.refused))
 
 pub returns-clause-whole : goal.returns-clause-whole
 returns-clause-whole c =
@@ -23,4 +23,4 @@ returns-clause-whole c =
     let t = c.pass_all.new.t in
     let counts : Counts = record { visits = t.visits; missing = t.absent } in
     subst (λ v. IsWhole v counts) c.self.view_is
-    (is-whole r.asked.job.now r.asked.allowed r.sections r.traversal t r.ended counts (c.self.invariant c.if-self.false) c.in_ok-pass_all.ensures.whole refl refl)
+    (is-whole r.sections.0 r.asked.job.now r.asked.allowed r.sections.1 r.traversal t r.ended counts (c.self.invariant c.if-self.false) c.in_ok-pass_all.ensures.whole refl refl)

@@ -8,5 +8,5 @@ pub invariant_of-self-2 : goal.invariant_of-self-2
 invariant_of-self-2 c =
     let s = c.self.inside in
     let p : List ℕ × List ℕ = (c.args.cid, c.args.block.now) in
-    added-one s.history s.kept c.add_copy.new.self p c.self.invariant (ap (λ (ps : Blocks). has_cid ps c.args.cid) c.self.view_is ∙ c.requires) (c.in_ok-add_copy.ensures.added ∙ ap (with_block s.kept) c.kept_bytes-bytes.ensures)
+    added-one s.history s.kept c.add_copy.new.self p c.self.invariant (ap (λ (ps : Blocks × Blocks). has_cid ps.1 c.args.cid) c.self.view_is ∙ c.requires) (c.in_ok-add_copy.ensures.added ∙ ap (with_block s.kept) c.kept_bytes-bytes.ensures)
     ∙ ap (map kept_of) (sym (c.push.ensures ∙ ap (λ (q : List ℕ × List ℕ). s.history ++ q ∷ []) c.of-section.ensures))

@@ -1,10 +1,9 @@
-use Rattle.std.proofs.Common.{ap, ◌∙◌}
-use Rattle.std.specs.Prelude.{is_some}
-use Rattle.ix_store.specs.Store.{Blocks, has_cid}
-use Rattle.ix_receive.proofs.Keeping.{has-come}
+use Rattle.std.proofs.Common.{sym, ◌∙◌}
+use Rattle.ix_receive.proofs.Bases.{either-has, or-has}
 use Rattle.ix_receive.proofs.sections.Sections.has.Goals as goal
 
-pub returns : goal.returns
-returns c =
-    let s = c.self.inside in
-    has-come s.kept s.history c.args.cid.now c.is_some.result c.self.invariant (c.is_some.ensures ∙ ap is_some c.find.ensures) ∙ ap (λ (ps : Blocks). has_cid ps c.args.cid.now) c.self.view_is
+pub returns-then-is_in_base : goal.returns-then-is_in_base
+returns-then-is_in_base c = c.if-is_in_base.true ∙ either-has c.args.self.now c.args.cid.now (sym c.is_in_base.ensures ∙ c.if-is_in_base.true)
+
+pub returns-else-is_in_base : goal.returns-else-is_in_base
+returns-else-is_in_base c = c.has_come.ensures ∙ or-has c.args.self.now c.args.cid.now (sym c.is_in_base.ensures ∙ c.if-is_in_base.false)

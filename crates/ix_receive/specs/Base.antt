@@ -1,0 +1,47 @@
+-- The base of a receiver: blocks that it has already.
+use Rattle.std.specs.Prelude.{◌≡◌, ℕ, true, false, List, [], ◌++◌, map, Option, None, Some}
+use Rattle.std.specs.List.{AllByRecursion, Contains}
+use Rattle.std.specs.Borrow.{Bor}
+use Rattle.ix_verdict.specs.Verdict.{verdict_with}
+use Rattle.ix_store.specs.Store.{Blocks, block_of}
+use Rattle.ix_walk.specs.JobMeaning.{JobMeaning}
+use Rattle.ix_walk.specs.Once.{cids_of}
+use Rattle.ix_walk.specs.Visits.{arrivals_of, is_over_limit}
+use Rattle.ix_archive.specs.Archive.{is_sound, is_known, difference_of}
+use Rattle.ix_archive.specs.KnownPlaces.{knows, known_by}
+use Rattle.ix_archive.specs.Laws.{once}
+use Rattle.ix_receive.specs.Own.{base_known, IsItsOwnWith}
+use Rattle.ix_receive.specs.Receiving.{sections_at}
+
+-- the known blocks of a store: the first copy under each CID, if it is sound
+abbrev pub known_blocks : Blocks → Blocks
+known_blocks store = sections_at store (map (λ p. p.0) store)
+
+-- the known blocks of a store, if there is one
+abbrev pub base_of : Option (Bor Blocks) → Blocks
+base_of None = []
+base_of (Some store) = known_blocks store.now
+
+-- the blocks of a base, and after them the sections that have come
+abbrev pub store_of : Blocks × Blocks → Blocks
+store_of s = s.0 ++ s.1
+
+-- the known blocks of a store are sound by themselves, and their CIDs are those that are known to a receiver that has the store
+pub record AreKnown (store : Blocks) : Type 0 where
+  pub sound : AllByRecursion (λ p. is_sound (verdict_with p.0 (Some p.1)) ≡ true) (known_blocks store)
+  pub same : (c : List ℕ) → is_known (base_known (known_blocks store)) c ≡ is_known (known_by store) c
+
+-- so they are for each store
+abbrev pub KnownBlocksAreKnown : Type 0
+KnownBlocksAreKnown = (store : Blocks) → AreKnown store
+
+-- the blocks of a base that are known, of the CIDs that a job visits in a store, are those of the store
+abbrev pub HasWhatIsKnown : Blocks → Blocks → JobMeaning → Type 0
+HasWhatIsKnown store base job = (c : List ℕ) → Contains (cids_of (arrivals_of store job)) c → knows base c ≡ true → block_of base c ≡ block_of store c
+
+-- then the archive of a job within its limit without what the base has is its own with it, traversed with link-visit-once
+abbrev pub DifferenceIsItsOwn : Type 0
+DifferenceIsItsOwn =
+    (store base : Blocks) (number : ℕ) (job : JobMeaning) → HasWhatIsKnown store base (once job)
+    → is_over_limit store (once job) ≡ false
+    → IsItsOwnWith (known_blocks base) number (once job) (difference_of (known_by base) store number (once job))
