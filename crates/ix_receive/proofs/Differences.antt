@@ -1,5 +1,5 @@
 -- A difference, over the base that it was made without.
-use Rattle.std.proofs.Common.{◌≡◌, ℕ, suc, Bool, true, false, not, List, [], ◌∷◌, ◌++◌, length, map, filter, flat_map, refl, sym, ap, ◌∙◌}
+use Rattle.std.proofs.Common.{◌≡◌, ℕ, suc, Bool, true, false, not, List, [], ◌++◌, length, map, filter, flat_map, refl, sym, ap, ◌∙◌}
 use Rattle.std.specs.Prelude.{nat_lt}
 use Rattle.std.proofs.lemmas.List.Elements.{filter_agree}
 use Rattle.ix_cid.specs.Cid.{parts_of, hash_function_of}
@@ -12,7 +12,7 @@ use Rattle.ix_walk.specs.Visits.{is_over_limit}
 use Rattle.ix_walk.specs.Once.{roots_from, first_ones, sound_value, once_arrivals}
 use Rattle.ix_walk.proofs.Firsts.{In}
 use Rattle.ix_walk.proofs.Links.{cid_of}
-use Rattle.ix_walk.proofs.Reaches.{contains-in, in-contains}
+use Rattle.ix_walk.proofs.Reaches.{contains-in}
 use Rattle.ix_check.specs.Verdict.{verdict_with}
 use Rattle.ix_archive.specs.Archive.{is_sound, difference_of}
 use Rattle.ix_archive.specs.KnownPlaces.{knows, known_by}

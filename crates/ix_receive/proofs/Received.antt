@@ -28,7 +28,7 @@ use Rattle.ix_receive.specs.Own.{base_known, AreTheirOwnWith}
 use Rattle.ix_receive.specs.Receiving.{first_visits, AreReceived, IsNextSection}
 use Rattle.ix_receive.proofs.Firsts.{AreApart, filter-apart, not-before, IsFirstOf, first-of, same-before}
 use Rattle.ix_receive.proofs.Fresh.{fresh, in-fresh, fresh-in, fresh-stay, fresh-split, fresh-last, fresh-apart}
-use Rattle.ix_receive.proofs.Lookup.{pair_in, pair-absent, no-block, has-block, block-left, block-right, in-neither}
+use Rattle.ix_receive.proofs.Lookup.{pair_in, pair-absent, block-left, block-right}
 use Rattle.ix_receive.proofs.Again.{value_in, has_block, chosen, pairs-by, chosen-same, value-same, sections-same, sections-sound, each-inside}
 use Rattle.ix_receive.proofs.Visits.{next-same, fewer-visits}
 

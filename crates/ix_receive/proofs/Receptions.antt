@@ -1,6 +1,6 @@
 -- A section is received, or refused.
 use Rattle.std.proofs.Common.{◌≡◌, ◌⊎◌, inl, inr, ℕ, suc, ◌+◌, ◌<◌, ◌≤◌, Bool, true, false, cond, List, [], ◌∷◌, ◌++◌, map, drop, take-append-drop, append_assoc, append-nil, refl, sym, ◌∙◌, ap, subst, arith, ltb-true, ltb-false}
-use Rattle.std.specs.Prelude.{Option, Some, None, is_some, nat_lt, ◌||◌, if◌then◌else◌, bytes_eq}
+use Rattle.std.specs.Prelude.{Option, Some, None, is_some, nat_lt, if◌then◌else◌, bytes_eq}
 use Rattle.std.specs.List.{Contains, count_by, list_any}
 use Rattle.std.specs.Ordering.{nat_cmp}
 use Rattle.std.specs.Cmp.Lexicographic.{slice_cmp}
@@ -16,7 +16,7 @@ use Rattle.ix_cid.specs.declared.hash_function.HashFunction.TheVariants.{Identit
 use Rattle.ix_verdict.specs.declared.verdict.Verdict.{Verdict}
 use Rattle.ix_verdict.specs.declared.verdict.Verdict.TheVariants.{Codec, Hash, Missing, Damaged, Malformed, Sound, Inline}
 use Rattle.ix_verdict.specs.Verdict.{has_codec, verdict_by, verdict_with, is_missing, is_no_data}
-use Rattle.ix_store.specs.Store.{Blocks, block_of, has_cid}
+use Rattle.ix_store.specs.Store.{Blocks, has_cid}
 use Rattle.ix_walk.specs.declared.subtree.PendingLink.{PendingLink}
 use Rattle.ix_walk.specs.JobMeaning.{JobMeaning}
 use Rattle.ix_walk.specs.Arrivals.{Arrival}

@@ -159,7 +159,7 @@ impl<'s> Sections<'s> {
 
     // Returns what is kept of the sections.
     pub(crate) fn into_kept(self) -> Store
-        ensures { result ≡ map kept_of self.1 }
+        ensures { result ≡ map kept_of self.entry.1 }
     {
         let Sections {
             base: _,

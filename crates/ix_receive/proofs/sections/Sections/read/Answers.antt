@@ -1,4 +1,4 @@
-use Rattle.std.proofs.Common.{ℕ, List, ◌∙◌, subst}
+use Rattle.std.proofs.Common.{ℕ, List, subst}
 use Rattle.ix_walk.specs.Arriving.{IsValue, IsReading}
 use Rattle.ix_receive.proofs.sections.Sections.read.Goals as goal
 
