@@ -155,6 +155,7 @@ complete -c ix_export -n '__fish_seen_subcommand_from receive' -s o -l out -r -F
 complete -c ix_export -n '__fish_seen_subcommand_from receive' -l max-block -x -d 'Greatest size of a section, such as 16M'
 complete -c ix_export -n '__fish_seen_subcommand_from receive' -l sync -d 'Sync FILE to disk before it is renamed'
 complete -c ix_export -n '__fish_seen_subcommand_from receive' -l no-sync -d 'Rename FILE without waiting for the disk'
+complete -c ix_export -n '__fish_seen_subcommand_from receive' -l paths -d 'Report what is missing with its path from a root'
 complete -c ix_export -n '__fish_seen_subcommand_from receive' -l json -d 'Report as JSON, one object per line'
 complete -c ix_export -n '__fish_seen_subcommand_from receive' -l progress -d 'Show progress on standard error'
 complete -c ix_export -n '__fish_seen_subcommand_from receive' -s q -l quiet -d 'No progress, and no report if the status is 0'

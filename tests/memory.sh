@@ -94,6 +94,13 @@ judge_receive() {
   [ "$status" != 0 ] || cmp -s out/a.car "$wanted" || fail 'the archive has no name'
 }
 
+# The same with --paths: a path for each block that is absent, or none of them.
+judge_received_paths() {
+  judge_receive
+  if [ "$status" != 0 ] || cmp -s stderr received.wanted; then return; fi
+  { echo 'note: out of memory for the paths of skips' && sed '/^  /d' received.wanted; } | cmp -s - stderr || fail 'another report'
+}
+
 # The same to standard output.
 judge_stream() {
   case $status in
@@ -204,6 +211,12 @@ each_request judge_paths "${words[@]}" --paths --out out/a.car
 words=(receive --root bafyreigiavswv62tcfji62na4ecatawlzg33sy6uezl5lj3g56mxdhbnmq --allow-missing raw "$wanted")
 each_request judge_receive "${words[@]}" --out out/a.car
 each_request judge_stream "${words[@]}" --out - --json
+{
+  echo 'receive done visits=10 kept=10 sections=6 bytes=784 absent=2'
+  sed -n 's/ damaged / missing /; /^  /p' paths.wanted
+  echo 'total jobs=1 done=1 skips=0'
+} >received.wanted
+each_request judge_received_paths "${words[@]}" --paths --out out/a.car
 wanted=$scratch/path.car
 "$program" get --blocks "$top/examples/library.car" --root bafyreigiavswv62tcfji62na4ecatawlzg33sy6uezl5lj3g56mxdhbnmq/album/photos/0 --out "$wanted" 2>stderr
 each_request judge_receive receive --root bafyreigiavswv62tcfji62na4ecatawlzg33sy6uezl5lj3g56mxdhbnmq/album/photos/0 "$wanted" --out out/a.car

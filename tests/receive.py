@@ -3,8 +3,8 @@
 that isn't here yet, and names the first place otherwise. The streams are the archives of random jobs over random graphs, in
 which blocks are damaged, missing or in their CIDs, in pieces of 1, 7, 4,096 and 65,536 bytes; the same with one section left
 out, doubled, swapped with the next, moved to the end, or one that nobody asked for in each gap; small ones with each byte changed
-and cut at each byte; and those of paths. The line, the status and the bytes that are written are compared whole. `--seed` takes
-others. Ends with status 1 at the first that is wrong.
+and cut at each byte; and those of paths. The line, the status and the bytes that are written are compared whole, half of them with
+--paths: the links that are absent, and the one at which a stream stopped. `--seed` takes others. Ends with status 1 at the first that is wrong.
 """
 
 import argparse
@@ -20,6 +20,7 @@ sys.path[:0] = [str(TESTS)]
 sys.dont_write_bytecode = True
 import once
 import paths
+import skips
 from differences import sections_of
 from hostile import DAG_CBOR, DIGESTS, IDENTITY, PROGRAM, RAW, SECONDS_A_RUN, Wrong, cid, header, section, text
 
@@ -31,7 +32,8 @@ ALLOWED = {"": (), "raw": (RAW,), "dag-cbor": (DAG_CBOR,), "all": (RAW, DAG_CBOR
 
 
 class Rejected(Exception):
-    """A stream that is rejected: how many bytes are written, and the line after the path."""
+    """A stream that is rejected: how many bytes are written, the line after the path, and the CID at which it stopped, if it has
+    one."""
 
 
 class Reception:
@@ -58,14 +60,14 @@ class Reception:
         if not self.waiting:
             return None
         if self.visits == self.limit:
-            raise Rejected(place, f"limit at {place}: {at}: more links than --limit allows")
+            raise Rejected(place, f"limit at {place}: {at}: more links than --limit allows", None)
         return self.waiting.pop()
 
     def pass_by(self, key, rest, place, came):
         codec, hash_code, _ = once.parts(key)
         if codec in (RAW, DAG_CBOR) and hash_code in DIGESTS and hash_code != IDENTITY and key not in self.here:
             if codec not in self.allowed or key in self.roots:
-                raise Rejected(place, f"missing at {place}: expected {text(key)}, and {came}")
+                raise Rejected(place, f"missing at {place}: expected {text(key)}, and {came}", key)
             self.missing.add(key)
             self.absent += 1
         self.expand(key, rest)
@@ -85,24 +87,46 @@ class Reception:
         elif codec == DAG_CBOR and block not in self.nodes:
             word = "malformed"
         if word:
-            raise Rejected(place, f"{word} {at}")
+            raise Rejected(place, f"{word} {at}", key)
         if key in self.here:
-            raise Rejected(place, f"repeated {at}: it came before; ask for dups=n")
+            raise Rejected(place, f"repeated {at}: it came before; ask for dups=n", key)
         if key in self.missing:
-            raise Rejected(place, f"order {at}: it was missing where it was expected first")
+            raise Rejected(place, f"order {at}: it was missing where it was expected first", key)
         while found := self.next(place, text(key)):
             if found[0] == key:
                 self.here[key] = block
                 return self.expand(*found)
             self.pass_by(*found, place, f"{text(key)} came")
-        raise Rejected(place, f"surplus {at}: it isn't asked for")
+        raise Rejected(place, f"surplus {at}: it isn't asked for", key)
 
     def finish(self, place):
         while found := self.next(place, "the end"):
             self.pass_by(*found, place, "the stream ends")
 
 
-def told(nodes, job, allowed, sections, tail=b""):
+class Kept:
+    """The blocks that have come, as `skips.visits` reads them."""
+
+    def __init__(self, nodes, here):
+        self.nodes, self.here = nodes, here
+
+    def inside(self, key):
+        codec, hash_code, digest = once.parts(key)
+        block = digest if hash_code == IDENTITY else self.here.get(key)
+        return self.nodes.get(block) if codec == DAG_CBOR and hash_code in DIGESTS else None
+
+    def verdict(self, key):
+        """Each is sound."""
+
+
+def visits_of(reception):
+    """The number, the CID and the path of each visit over what has come."""
+    kept = Kept(reception.nodes, reception.here)
+    made = skips.visits(kept, reception.selector, reception.roots, True, reception.limit)
+    return [(number, key, skips.path_text(root, steps)) for number, (_, key, root, steps) in enumerate(made)]
+
+
+def told(nodes, job, allowed, sections, tail=b"", with_paths=False):
     """How many bytes of a stream are written, and its report or line: of a header for the job's roots, sections, and the
     beginning of another one."""
     _, selector, roots, limit, _ = job
@@ -113,14 +137,21 @@ def told(nodes, job, allowed, sections, tail=b""):
             reception.take(place, key, block)
             place += len(section(key, block))
         if tail:
-            raise Rejected(place, f"truncated at {place}: the stream ends within a section")
+            raise Rejected(place, f"truncated at {place}: the stream ends within a section", None)
         reception.finish(place)
     except Rejected as rejected:
-        return rejected.args[0], "-: " + rejected.args[1]
+        size, line, stop = rejected.args
+        found = [visit for visit in visits_of(reception) if visit[1] == stop][:1] if with_paths else []
+        word = line.split(" ")[0]
+        return size, "\n".join(["-: " + line, *(f"  {number} {word} {text(key)} {path}" for number, key, path in found)])
+    lines = []
+    for number, key, path in visits_of(reception) if with_paths else []:
+        if key in reception.missing:
+            lines.append(f"  {number} missing {text(key)} {path}\n")
     absent = f" absent={reception.absent}" if allowed else ""
     visits = reception.visits
     counts = f"visits={visits} kept={visits} sections={len(sections)} bytes={place}"
-    return None, f"receive done {counts}{absent}\ntotal jobs=1 done=1 skips=0"
+    return None, f"receive done {counts}{absent}\n{''.join(lines)}total jobs=1 done=1 skips=0"
 
 
 # Runs.
@@ -153,12 +184,12 @@ def words_of(job, allowed):
     return words + (["--allow-missing", allowed] if allowed else [])
 
 
-def judge(room, nodes, job, allowed, sections, piece, tail=b""):
+def judge(room, nodes, job, allowed, sections, piece, tail=b"", with_paths=False):
     """Receives a stream, and compares all of it with the model. Returns whether it was accepted."""
     stream = header(job[2]) + b"".join(section(*pair) for pair in sections) + tail
-    size, line = told(nodes, job, allowed, sections, tail)
+    size, line = told(nodes, job, allowed, sections, tail, with_paths)
     wanted = (0, line + "\n", stream, None) if size is None else (4, line + "\n", None, stream[:size])
-    came = received(room, stream, words_of(job, allowed), piece)
+    came = received(room, stream, words_of(job, allowed) + ["--paths"] * with_paths, piece)
     if came != wanted:
         raise Wrong(f"{came} came and {wanted} was wanted of {job[-1]} --allow-missing {allowed}, of {stream.hex()}")
     return size is None
@@ -184,14 +215,14 @@ def random_streams(room, seed, graphs):
                         raise Wrong(f"another archive of get {job[-1]}, over {graph.car().hex()}")
                 sections = sections_of(archive)[1]
                 allowed = chance.choice(list(ALLOWED))
-                accepted += judge(room, graph.nodes, job, allowed, sections, PIECES[index % 4])
+                accepted += judge(room, graph.nodes, job, allowed, sections, PIECES[index % 4], b"", chance.random() < 0.5)
                 streams += 1
                 if 1 < len(sections) < 7 and (most is None or len(sections) > len(most[1])):
                     most = job, sections
             if most:
                 for allowed in ("", "all"):
                     for changed in changes_of(chance, *most):
-                        kept += judge(room, graph.nodes, most[0], allowed, changed, chance.choice(PIECES))
+                        kept += judge(room, graph.nodes, most[0], allowed, changed, chance.choice(PIECES), b"", chance.random() < 0.5)
                         changes += 1
         except Wrong as wrong:
             raise Wrong(f"seed {seed}-{number}: {wrong}") from None

@@ -124,6 +124,69 @@ rm out/a.car
 received_fork "${fork_parts[@]:0:3}"
 expected_at 299 "$one_text" ''
 
+begin 'receive: --paths lists what is absent, each link by itself'
+# The visits of the fork: itself, its first list at 0, `abc` at 0/0, its second list at 1, and `abc` at 1/0.
+with_path() {
+  printf '{"visit":%s,"verdict":"%s","cid":"%s","path":"%s"}' "$@"
+}
+allowing='--allow-missing raw --paths'
+received_fork "${fork_parts[0]}" "${fork_parts[1]}" "${fork_parts[3]}"
+expect 0 '' "receive done visits=5 kept=5 sections=3 bytes=338 absent=2
+  2 missing $abc_text $fork_text/0/0
+  4 missing $abc_text $fork_text/1/0
+total jobs=1 done=1 skips=0"
+received_fork "${fork_parts[@]}"
+expect 0 '' 'receive done visits=5 kept=5 sections=4 bytes=378 absent=0
+total jobs=1 done=1 skips=0'
+allowing='--allow-missing all --paths --json'
+received_fork "${fork_parts[0]}"
+expect 0 '' "{\"job\":\"receive\",\"end\":\"done\",\"visits\":3,\"kept\":3,\"sections\":1,\"bytes\":179,\"absent\":2,\"file\":\"out/a.car\",\"skips\":[$(with_path 1 missing "$zero_text" "$fork_text/0"),$(with_path 2 missing "$one_text" "$fork_text/1")]}
+{\"total\":{\"jobs\":1,\"done\":1,\"skips\":0}}"
+rm out/a.car
+
+# A list of links to an identity CID, a CID of another codec, and `abc`.
+mixed=83$(link "$(cbor_inline 80)")$(link "01701220$(digest 0a)")$(link "$abc_cid")
+mixed_cid=$(cbor "$mixed")
+mixed_part=$(section "$mixed_cid" "$mixed")
+bytes "$(header "$mixed_cid")" "$mixed_part" >input.car
+run receive --root "$(text "$mixed_cid")" --allow-missing raw --paths --out out/a.car input.car
+expect 0 '' "receive done visits=4 kept=4 sections=1 bytes=$((59 + ${#mixed_part} / 2)) absent=1
+  3 missing $abc_text $(text "$mixed_cid")/2
+total jobs=1 done=1 skips=0"
+
+begin 'receive: --paths says where a stream stopped'
+allowing=--paths
+received_fork "${fork_parts[@]:1}"
+rejected 59 "input.car: missing at 59: expected $fork_text, and $zero_text came
+  0 missing $fork_text $fork_text"
+received_fork "${fork_parts[0]}" "${fork_parts[3]}"
+rejected 179 "input.car: missing at 179: expected $zero_text, and $one_text came
+  1 missing $zero_text $fork_text/0"
+received_fork "${fork_parts[@]:0:2}"
+rejected 259 "input.car: missing at 259: expected $abc_text, and the stream ends
+  2 missing $abc_text $fork_text/0/0"
+received_fork "${fork_parts[@]:0:2}" "$(section "$abc_cid" 616264)"
+rejected 259 "input.car: damaged at 259: $abc_text
+  2 damaged $abc_text $fork_text/0/0"
+received_fork "${fork_parts[@]:0:3}" "${fork_parts[2]}"
+rejected 299 "input.car: repeated at 299: $abc_text: it came before; ask for dups=n
+  2 repeated $abc_text $fork_text/0/0"
+received_fork "${fork_parts[@]}" "${fork_parts[2]}"
+rejected 378 "input.car: repeated at 378: $abc_text: it came before; ask for dups=n
+  2 repeated $abc_text $fork_text/0/0"
+received_fork "${fork_parts[@]}" "$foreign_part"
+rejected 378 "input.car: surplus at 378: $empty_text: it isn't asked for"
+allowing='--paths --allow-missing all'
+received_fork "${fork_parts[0]}" "${fork_parts[3]}" "${fork_parts[2]}" "${fork_parts[1]}"
+rejected 298 "input.car: order at 298: $zero_text: it was missing where it was expected first
+  1 order $zero_text $fork_text/0"
+allowing='--paths --json'
+received_fork "${fork_parts[0]}" "${fork_parts[3]}"
+expect 4 '' "input.car: missing at 179: expected $zero_text, and $one_text came
+{\"job\":\"receive\",\"end\":\"rejected\",\"sections\":1,\"bytes\":179,\"part\":\"out/a.car.part\",\"fault\":{\"place\":179,\"reason\":\"missing\",\"cid\":\"$one_text\",\"expected\":\"$zero_text\",\"visit\":1,\"path\":\"$fork_text/0\"}}
+{\"total\":{\"jobs\":1,\"done\":0,\"skips\":0}}"
+rm out/a.car.part
+
 begin 'receive: sections that are not sound, and of another codec or hash'
 refused_part() {
   bytes "$(header "$one_cid")" "$(section "$one_cid" "$one")" "$2" "$(section "$abc_cid" "$abc")" >input.car

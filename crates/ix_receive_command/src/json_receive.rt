@@ -2,6 +2,7 @@
 
 use crate::rejection::Rejection;
 use crate::stream::{Ended, Outcome};
+use crate::visit_paths::StopPlace;
 use ix_archive::{Counts, End};
 use ix_jobs::JobResult;
 use ix_json_report::{
@@ -12,14 +13,15 @@ use json::Writer;
 use std::alloc::{AllocError, Global};
 use std::slice;
 
-/// Returns the objects of a stream that was accepted: that of its job and the total.
+/// Returns the objects of a stream that was accepted: that of its job, whose skips are links that are absent,
+/// and the total, which doesn't count them.
 pub(crate) fn accepted_objects(
     alloc: Global,
     path: &str,
     is_named: bool,
     job: &Job,
-    outcome: &JobResult,
-    absent: Option<usize>,
+    outcome: JobResult,
+    notes: SkipNotes<'_>,
 ) -> Result<Vec<u8>, AllocError> {
     let part = format!(in alloc; "{path}.part")?;
     let place = if is_named {
@@ -27,16 +29,19 @@ pub(crate) fn accepted_objects(
     } else {
         ArchivePlace::Part(part.as_str())
     };
-    let notes = SkipNotes { absent, paths: &[] };
-    let text = push_job(alloc, Vec::new(alloc), job, outcome, notes, place)?;
-    push_total(text, slice::from_ref(outcome))
+    let mut outcome = outcome;
+    let text = push_job(alloc, Vec::new(alloc), job, &outcome, notes, place)?;
+    outcome.skips.clear();
+    push_total(text, slice::from_ref(&outcome))
 }
 
-/// Returns the objects of a stream that wasn't accepted: what was written of it, and why it ended.
+/// Returns the objects of a stream that wasn't accepted: what was written of it, why it ended, and at which
+/// visit, if that is known.
 pub(crate) fn other_objects(
     alloc: Global,
     path: &str,
     outcome: &Outcome,
+    stop: &Option<StopPlace>,
 ) -> Result<Vec<u8>, AllocError> {
     let mut out = Writer::new(Vec::new(alloc));
     out.begin_object()?;
@@ -46,7 +51,7 @@ pub(crate) fn other_objects(
     push_number(&mut out, "bytes", outcome.bytes)?;
     push_path(alloc, &mut out, path)?;
     if let Ended::Rejected(rejection) = &outcome.ended {
-        push_rejection(&mut out, rejection)?;
+        push_rejection(&mut out, rejection, stop)?;
     }
     out.end_object()?;
     push_total(end_line(out)?, slice::from_ref(&undone(alloc)))
@@ -72,13 +77,21 @@ fn push_path(alloc: Global, out: &mut Writer, path: &str) -> Result<(), AllocErr
 }
 
 // Appends the member with the first place that was rejected.
-fn push_rejection(out: &mut Writer, rejection: &Rejection) -> Result<(), AllocError> {
+fn push_rejection(
+    out: &mut Writer,
+    rejection: &Rejection,
+    stop: &Option<StopPlace>,
+) -> Result<(), AllocError> {
     out.key("fault")?;
     out.begin_object()?;
     push_number(out, "place", rejection.place)?;
     push_text(out, "reason", rejection.reason.as_str())?;
     push_optional(out, "cid", &rejection.cid)?;
     push_optional(out, "expected", &rejection.expected)?;
+    if let Some(stop) = stop {
+        push_number(out, "visit", stop.visit.into())?;
+        push_text(out, "path", stop.path.as_str())?;
+    }
     out.end_object()
 }
 

@@ -13,3 +13,4 @@ mod rejection;
 mod report;
 mod spec;
 mod stream;
+mod visit_paths;

@@ -4,7 +4,7 @@ use crate::asked::{Asked, asked_for};
 use crate::path_watch::PathWatch;
 use crate::report::Report;
 pub use crate::spec::SPEC;
-use crate::spec::{ANY_HEADER, FILE, MAX_BLOCK, OUT};
+use crate::spec::{ANY_HEADER, FILE, MAX_BLOCK, OUT, PATHS};
 use crate::stream::{Ended, Incoming, Outcome, Reception, Request};
 use clap::ArgMatches;
 use ix_cid::code::{DAG_CBOR, RAW};
@@ -60,6 +60,7 @@ struct ReceiveCommand<'a> {
     // The greatest length of a section.
     most: usize,
     is_synced: bool,
+    has_paths: bool,
     is_json: bool,
     is_quiet: bool,
     progress: ProgressMode,
@@ -92,6 +93,7 @@ impl<'a> ReceiveCommand<'a> {
             },
             most: usize::try_from(most).unwrap_or(usize::MAX),
             is_synced: !NO_SYNC.is_given(words),
+            has_paths: PATHS.is_given(words),
             is_json: JSON.is_given(words),
             is_quiet: QUIET.is_given(words),
             progress: progress_mode(words, &QUIET, terminals.errors),
@@ -201,6 +203,7 @@ impl<'a> ReceiveCommand<'a> {
             input: self.input,
             path,
             shows_absent: self.allowed.is_some(),
+            has_paths: self.has_paths,
             is_json: self.is_json,
             is_quiet: self.is_quiet,
         }

@@ -1,5 +1,6 @@
 //! Why a stream is rejected.
 
+use crate::visit_paths::StopPlace;
 use ix_car::CarKind;
 use ix_cid::Cid;
 use ix_own_archive::{ArchiveReason, ReceiveFault, StreamFault, StreamReason};
@@ -15,6 +16,8 @@ pub(crate) struct Rejection {
     /// The CID of the section there, and of the block that is expected in its place, if they are known.
     pub cid: Option<String>,
     pub expected: Option<String>,
+    /// The CID of what is there or is expected there, at whose visit the stream stopped, if it has one.
+    pub stopped_at: Option<Cid>,
     // What is added to the line after the place.
     detail: String,
     // The whole line, if it is that of a path.
@@ -57,6 +60,7 @@ impl Rejection {
             reason: String::from_str(alloc, word)?,
             cid: None,
             expected: None,
+            stopped_at: None,
             detail,
             line: None,
         })
@@ -70,6 +74,17 @@ impl Rejection {
         let (reason, place) = (self.reason.as_str(), self.place);
         let detail = self.detail.as_str();
         format!(in alloc; "{path}: {reason} at {place}: {detail}")
+    }
+
+    /// Returns the line of the visit at which the stream stopped, as that of a skip with its path.
+    pub(crate) fn visit_line(&self, alloc: Global, stop: &StopPlace) -> Result<String, AllocError> {
+        let (visit, path) = (stop.visit, stop.path.as_str());
+        let reason = self.reason.as_str();
+        let cid = match (&self.expected, &self.cid) {
+            (Some(cid), _) | (None, Some(cid)) => cid.as_str(),
+            (None, None) => "",
+        };
+        format!(in alloc; "  {visit} {reason} {cid} {path}")
     }
 }
 
@@ -118,9 +133,9 @@ fn refusal(
     alloc: Global,
     place: u64,
     fault: &ReceiveFault,
-    cid: Option<&Cid>,
+    section: Option<&Cid>,
 ) -> Result<Option<Rejection>, AllocError> {
-    let cid = match cid {
+    let cid = match section {
         Some(cid) => Some(cid.text(alloc)?),
         None => None,
     };
@@ -153,6 +168,9 @@ fn refusal(
     let detail = format!(in alloc; "{at}{after}")?;
     let mut rejection = Rejection::by(alloc, place, word.as_str(), detail)?;
     rejection.cid = cid;
+    if let Some(section) = section {
+        rejection.stopped_at = Some(section.try_clone(alloc)?);
+    }
     Ok(Some(rejection))
 }
 
@@ -163,6 +181,7 @@ fn missing(
     expected: &Cid,
     cid: Option<String>,
 ) -> Result<Option<Rejection>, AllocError> {
+    let stopped_at = expected.try_clone(alloc)?;
     let expected = expected.text(alloc)?;
     let wanted = expected.as_str();
     let detail = match &cid {
@@ -175,5 +194,6 @@ fn missing(
     let mut rejection = Rejection::by(alloc, place, "missing", detail)?;
     rejection.cid = cid;
     rejection.expected = Some(expected);
+    rejection.stopped_at = Some(stopped_at);
     Ok(Some(rejection))
 }

@@ -2,13 +2,18 @@
 
 use crate::json_receive::{accepted_objects, other_objects};
 use crate::stream::{Ended, Outcome};
-use ix_archive::{Counts, End};
+use crate::visit_paths::{ListedVisits, StopPlace, first_visit};
+use ix_archive::{Counts, End, Skip};
 use ix_cli_io::print_report;
 use ix_jobs::{JobResult, report, report_with_absent};
+use ix_json_report::SkipNotes;
 use ix_own_archive::Counts as Received;
 use ix_walk::Job;
 use std::alloc::{AllocError, Global};
-use std::slice;
+use std::{slice, str};
+
+// The line where memory runs out for paths, as that of `get`.
+const NO_PATHS: &str = "note: out of memory for the paths of skips";
 
 /// What a report is made of besides how the stream ended.
 #[derive(Clone, Copy)]
@@ -19,6 +24,8 @@ pub(crate) struct Report<'a> {
     pub path: &'a str,
     /// Whether it is printed how many blocks are absent.
     pub shows_absent: bool,
+    /// Whether it is printed where these are, and where a stream stopped.
+    pub has_paths: bool,
     pub is_json: bool,
     pub is_quiet: bool,
 }
@@ -27,49 +34,113 @@ impl<'a> Report<'a> {
     /// Prints to standard error how a stream ended. The archive of one that was accepted has its name, or
     /// not. If standard error can't be written, or memory runs out, there is no one to report to.
     pub(crate) fn print<R: AllocGlobal + Eprint>(&self, rt: &R, outcome: &Outcome, is_named: bool) {
-        let alloc = rt.alloc();
         if let Ended::Accepted(counts) = &outcome.ended {
-            if self.is_quiet {
-                return;
-            }
-            if let Ok(text) = self.accepted(alloc, outcome, counts, is_named) {
+            if !self.is_quiet
+                && let Ok(text) = self.accepted(rt, outcome, counts, is_named)
+            {
                 print_report(rt, text.as_slice());
             }
             return;
         }
+        self.print_other(rt, outcome);
+    }
+
+    // Prints how a stream ended that wasn't accepted.
+    fn print_other<R: AllocGlobal + Eprint>(&self, rt: &R, outcome: &Outcome) {
+        let alloc = rt.alloc();
         if let Ok(line) = self.line(alloc, &outcome.ended) {
             let _ = rt.eprintln(line.as_str());
         }
-        if self.is_json
-            && !matches!(&outcome.ended, Ended::NoCar(_) | Ended::Unreadable(_))
-            && let Ok(text) = other_objects(alloc, self.path, outcome)
+        let stop = self.stop_place(rt, outcome);
+        if !self.is_json {
+            if let (Ended::Rejected(rejection), Some(stop)) = (&outcome.ended, &stop)
+                && let Ok(line) = rejection.visit_line(alloc, stop)
+            {
+                let _ = rt.eprintln(line.as_str());
+            }
+            return;
+        }
+        if !matches!(&outcome.ended, Ended::NoCar(_) | Ended::Unreadable(_))
+            && let Ok(text) = other_objects(alloc, self.path, outcome, &stop)
         {
             print_report(rt, text.as_slice());
         }
     }
 
-    // Returns the report of a stream that was accepted.
-    fn accepted(
+    // Returns the visit at which a stream stopped, if it is asked for, and is one of the job. If memory runs
+    // out for it, a line on standard error says so.
+    fn stop_place<R: AllocGlobal + Eprint>(&self, rt: &R, outcome: &Outcome) -> Option<StopPlace> {
+        let (Ended::Rejected(rejection), Some(kept)) = (&outcome.ended, &outcome.kept) else {
+            return None;
+        };
+        let cid = rejection.stopped_at.as_ref()?;
+        if !self.has_paths {
+            return None;
+        }
+        match first_visit(rt.alloc(), kept, self.job, cid) {
+            Ok(stop) => stop,
+            Err(_) => {
+                let _ = rt.eprintln(NO_PATHS);
+                None
+            }
+        }
+    }
+
+    // Returns the report of a stream that was accepted. If memory runs out for the paths of what is absent,
+    // a line on standard error says so, and the report is made without.
+    fn accepted<R: AllocGlobal + Eprint>(
+        &self,
+        rt: &R,
+        outcome: &Outcome,
+        counts: &Received,
+        is_named: bool,
+    ) -> Result<Vec<u8>, AllocError> {
+        let alloc = rt.alloc();
+        if self.has_paths
+            && counts.missing > 0
+            && let Some(kept) = &outcome.kept
+        {
+            if let Ok(listed) = ListedVisits::of_missing(alloc, kept, self.job)
+                && let Ok(report) = self.with_visits(alloc, outcome, counts, is_named, listed)
+            {
+                return Ok(report);
+            }
+            let _ = rt.eprintln(NO_PATHS);
+        }
+        let none = ListedVisits::none(alloc);
+        self.with_visits(alloc, outcome, counts, is_named, none)
+    }
+
+    // Returns the report of a stream that was accepted, which lists these visits.
+    fn with_visits(
         &self,
         alloc: Global,
         outcome: &Outcome,
         counts: &Received,
         is_named: bool,
+        listed: ListedVisits,
     ) -> Result<Vec<u8>, AllocError> {
-        let result = result_of(alloc, outcome, counts);
         let absent = if self.shows_absent {
             Some(counts.missing as usize)
         } else {
             None
         };
+        let ListedVisits { skips, paths } = listed;
         if self.is_json {
-            return accepted_objects(alloc, self.path, is_named, self.job, &result, absent);
+            let result = result_of(outcome, counts, skips);
+            let notes = SkipNotes {
+                absent,
+                paths: paths.as_slice(),
+            };
+            return accepted_objects(alloc, self.path, is_named, self.job, result, notes);
         }
+        let result = result_of(outcome, counts, Vec::new(alloc));
         let (jobs, results) = (slice::from_ref(self.job), slice::from_ref(&result));
-        match absent {
-            Some(absent) => report_with_absent(alloc, jobs, results, &[absent]),
-            None => report(alloc, jobs, results),
-        }
+        let text = match absent {
+            Some(absent) => report_with_absent(alloc, jobs, results, &[absent])?,
+            None => report(alloc, jobs, results)?,
+        };
+        with_lines(alloc, text, skips.as_slice(), paths.as_slice())
     }
 
     // Returns the line for a stream that wasn't accepted.
@@ -85,9 +156,34 @@ impl<'a> Report<'a> {
     }
 }
 
-// Returns the result of the job of a stream that was accepted. Each of its visits is kept, since all its
-// blocks are sound.
-fn result_of(alloc: Global, outcome: &Outcome, counts: &Received) -> JobResult {
+// Returns a report in which the line of the job is followed by those of visits with their paths.
+fn with_lines(
+    alloc: Global,
+    report: Vec<u8>,
+    skips: &[Skip],
+    paths: &[Option<String>],
+) -> Result<Vec<u8>, AllocError> {
+    let Some((job, total)) = str::from_utf8(report.as_slice())
+        .unwrap_or("")
+        .split_once('\n')
+    else {
+        return Ok(report);
+    };
+    let mut text = String::from_str(alloc, job)?;
+    for (skip, path) in skips.iter().zip(paths) {
+        let (visit, verdict, cid) = (skip.seq, skip.verdict, skip.cid.text(alloc)?);
+        write!(text, "\n  {visit} {verdict} {cid}")?;
+        if let Some(path) = path {
+            write!(text, " {path}")?;
+        }
+    }
+    write!(text, "\n{total}")?;
+    Ok(text.into_bytes())
+}
+
+// Returns the result of the job of a stream that was accepted, with these visits as skips. Each of its visits
+// is kept, since all its blocks are sound.
+fn result_of(outcome: &Outcome, counts: &Received, skips: Vec<Skip>) -> JobResult {
     JobResult {
         end: End::Done,
         counts: Counts {
@@ -97,6 +193,6 @@ fn result_of(alloc: Global, outcome: &Outcome, counts: &Received) -> JobResult {
             bytes: outcome.bytes,
             known: None,
         },
-        skips: Vec::new(alloc),
+        skips,
     }
 }

@@ -40,6 +40,8 @@ A section of more than 8 MiB, CID and block, is rejected before it is read, or\n
 of more than --max-block says.\n\
 \n\
 The report is that of `get`, under the name `receive`, on standard error. With\n\
+--paths it lists each link that is absent with its path from the root, and the\n\
+line of an error is followed by the link at which the stream stopped. With\n\
 --json it is JSON: docs/JSON.md has its keys.\n\
 \n\
 Status: 0 if the archive was accepted and written, 4 if it wasn't, 2 if the\n\
@@ -87,6 +89,12 @@ const VERBOSE: ArgSpec = ArgSpec {
     help: "Accepted: an error always has its cause",
 };
 
+pub(crate) const PATHS: ArgSpec = ArgSpec {
+    name: "paths",
+    given: ArgKind::Flag,
+    help: "Report what is missing with its path from a root",
+};
+
 /// The command: the job, what it accepts, and where to it writes.
 pub static SPEC: CommandSpec = CommandSpec {
     name: "receive",
@@ -105,6 +113,7 @@ pub static SPEC: CommandSpec = CommandSpec {
         MAX_BLOCK,
         SYNC,
         NO_SYNC,
+        PATHS,
         JSON,
         PROGRESS,
         QUIET,

@@ -11,6 +11,7 @@ use ix_own_archive::{
     AllowMissing, ArchiveReason, Counts, ExpectedHeader, StreamFault, StreamLimits, StreamReason,
     StreamReceiver,
 };
+use ix_store::Store;
 use ix_walk::Job;
 use std::alloc::{AllocError, Global};
 use std::io::{self, ErrorKind, Read, Write};
@@ -54,6 +55,8 @@ pub(crate) struct Outcome {
     pub ended: Ended,
     pub sections: u64,
     pub bytes: u64,
+    /// What was kept of the sections, if that shows where the stream stopped, or what is missing.
+    pub kept: Option<Store>,
 }
 
 /// A stream of which a piece was read.
@@ -171,11 +174,7 @@ impl<'s, W: Write + Drop> Reception<'s, W> {
         let (mut reception, mut incoming) = (self, incoming);
         match reception.take_all(&mut incoming, progress) {
             Ok(()) => reception.finish(incoming.front.as_slice()),
-            Err(ended) => Outcome {
-                ended,
-                sections: reception.sections,
-                bytes: reception.bytes,
-            },
+            Err(ended) => reception.stop(ended),
         }
     }
 
@@ -244,6 +243,33 @@ impl<'s, W: Write + Drop> Reception<'s, W> {
         }
     }
 
+    // Ends the stream that stopped.
+    fn stop(self, ended: Ended) -> Outcome {
+        let Reception {
+            request: _,
+            receiver,
+            paths,
+            writer,
+            sections,
+            bytes,
+        } = self;
+        drop(paths);
+        drop(writer);
+        let kept = match &ended {
+            Ended::Rejected(rejection) if rejection.stopped_at.is_some() => {
+                let (_, kept) = receiver.finish_kept();
+                Some(kept)
+            }
+            _ => None,
+        };
+        Outcome {
+            ended,
+            sections,
+            bytes,
+            kept,
+        }
+    }
+
     // Ends the stream, which begins with these bytes, and flushes what was written of it.
     fn finish(self, front: &[u8]) -> Outcome {
         let Reception {
@@ -254,7 +280,8 @@ impl<'s, W: Write + Drop> Reception<'s, W> {
             sections,
             bytes,
         } = self;
-        let ended = match finished(&request, receiver, &paths, bytes, front) {
+        let (counts, kept) = receiver.finish_kept();
+        let ended = match finished(&request, counts, &paths, bytes, front) {
             Ok(counts) => match writer.flush() {
                 Ok(()) => Ended::Accepted(counts),
                 Err(error) => Ended::Unwritable(error),
@@ -265,19 +292,20 @@ impl<'s, W: Write + Drop> Reception<'s, W> {
             ended,
             sections,
             bytes,
+            kept: Some(kept),
         }
     }
 }
 
-// Ends a stream of so many bytes, which begins with these. Its paths have to be at their ends.
+// Returns how a stream of so many bytes ended, which begins with these. Its paths have to be at their ends.
 fn finished(
     request: &Request<'_>,
-    receiver: StreamReceiver<'_>,
+    counts: Result<Counts, StreamFault>,
     paths: &PathWatch,
     bytes: u64,
     front: &[u8],
 ) -> Result<Counts, Ended> {
-    let counts = match receiver.finish() {
+    let counts = match counts {
         Ok(counts) => counts,
         Err(fault) => return Err(ended_by(request, &fault, front)?),
     };
