@@ -3,7 +3,8 @@
 that isn't here yet, and names the first place otherwise. The streams are the archives of random jobs over random graphs, in
 which blocks are damaged, missing or in their CIDs, in pieces of 1, 7, 4,096 and 65,536 bytes; the same with one section left
 out, doubled, swapped with the next, moved to the end, or one that nobody asked for in each gap; small ones with each byte changed
-and cut at each byte; and those of paths. The line, the status and the bytes that are written are compared whole, half of them with
+and cut at each byte; those of paths; and differences, with the base that they were made without, of which some copies are
+damaged, and with one more section that the base has. The line, the status and the bytes that are written are compared whole, half of them with
 --paths: the links that are absent, and the one at which a stream stopped. `--seed` takes others. Ends with status 1 at the first that is wrong.
 """
 
@@ -38,17 +39,18 @@ class Rejected(Exception):
 
 class Reception:
     """What has come of an archive of a job, by the definition: the traversal over the sections that are here, each block
-    expanded once with what is left of the selector."""
+    expanded once with what is left of the selector. The blocks of a base are here from the beginning."""
 
-    def __init__(self, nodes, selector, roots, limit, allowed):
+    def __init__(self, nodes, selector, roots, limit, allowed, base):
         self.nodes, self.selector, self.roots, self.limit, self.allowed = nodes, selector, roots, limit, allowed
+        self.base = base
         self.waiting = [(root, selector.start()) for root in reversed(roots)]
         self.here, self.missing, self.gone = {}, set(), set()
         self.visits = self.absent = 0
 
     def expand(self, key, rest):
         codec, hash_code, digest = once.parts(key)
-        block = digest if hash_code == IDENTITY else self.here.get(key)
+        block = digest if hash_code == IDENTITY else self.base.get(key, self.here.get(key))
         node = self.nodes.get(block) if codec == DAG_CBOR and hash_code in DIGESTS else None
         if node is not None and (key, rest) not in self.gone:
             self.gone.add((key, rest))
@@ -65,7 +67,7 @@ class Reception:
 
     def pass_by(self, key, rest, place, came):
         codec, hash_code, _ = once.parts(key)
-        if codec in (RAW, DAG_CBOR) and hash_code in DIGESTS and hash_code != IDENTITY and key not in self.here:
+        if codec in (RAW, DAG_CBOR) and hash_code in DIGESTS and hash_code != IDENTITY and key not in self.here and key not in self.base:
             if codec not in self.allowed or key in self.roots:
                 raise Rejected(place, f"missing at {place}: expected {text(key)}, and {came}", key)
             self.missing.add(key)
@@ -88,6 +90,8 @@ class Reception:
             word = "malformed"
         if word:
             raise Rejected(place, f"{word} {at}", key)
+        if key in self.base:
+            raise Rejected(place, f"known {at}: a file of --with has it", key)
         if key in self.here:
             raise Rejected(place, f"repeated {at}: it came before; ask for dups=n", key)
         if key in self.missing:
@@ -121,16 +125,16 @@ class Kept:
 
 def visits_of(reception):
     """The number, the CID and the path of each visit over what has come."""
-    kept = Kept(reception.nodes, reception.here)
+    kept = Kept(reception.nodes, {**reception.here, **reception.base})
     made = skips.visits(kept, reception.selector, reception.roots, True, reception.limit)
     return [(number, key, skips.path_text(root, steps)) for number, (_, key, root, steps) in enumerate(made)]
 
 
-def told(nodes, job, allowed, sections, tail=b"", with_paths=False):
+def told(nodes, job, allowed, sections, tail=b"", base=None, with_paths=False):
     """How many bytes of a stream are written, and its report or line: of a header for the job's roots, sections, and the
     beginning of another one."""
     _, selector, roots, limit, _ = job
-    reception = Reception(nodes, selector, roots, limit, ALLOWED[allowed])
+    reception = Reception(nodes, selector, roots, limit, ALLOWED[allowed], base or {})
     place = len(header(roots))
     try:
         for key, block in sections:
@@ -184,12 +188,12 @@ def words_of(job, allowed):
     return words + (["--allow-missing", allowed] if allowed else [])
 
 
-def judge(room, nodes, job, allowed, sections, piece, tail=b"", with_paths=False):
+def judge(room, nodes, job, allowed, sections, piece, tail=b"", base=None, files=(), with_paths=False):
     """Receives a stream, and compares all of it with the model. Returns whether it was accepted."""
     stream = header(job[2]) + b"".join(section(*pair) for pair in sections) + tail
-    size, line = told(nodes, job, allowed, sections, tail, with_paths)
+    size, line = told(nodes, job, allowed, sections, tail, base, with_paths)
     wanted = (0, line + "\n", stream, None) if size is None else (4, line + "\n", None, stream[:size])
-    came = received(room, stream, words_of(job, allowed) + ["--paths"] * with_paths, piece)
+    came = received(room, stream, words_of(job, allowed) + [word for file in files for word in ("--with", file)] + ["--paths"] * with_paths, piece)
     if came != wanted:
         raise Wrong(f"{came} came and {wanted} was wanted of {job[-1]} --allow-missing {allowed}, of {stream.hex()}")
     return size is None
@@ -215,20 +219,83 @@ def random_streams(room, seed, graphs):
                         raise Wrong(f"another archive of get {job[-1]}, over {graph.car().hex()}")
                 sections = sections_of(archive)[1]
                 allowed = chance.choice(list(ALLOWED))
-                accepted += judge(room, graph.nodes, job, allowed, sections, PIECES[index % 4], b"", chance.random() < 0.5)
+                accepted += judge(room, graph.nodes, job, allowed, sections, PIECES[index % 4], with_paths=chance.random() < 0.5)
                 streams += 1
                 if 1 < len(sections) < 7 and (most is None or len(sections) > len(most[1])):
                     most = job, sections
             if most:
                 for allowed in ("", "all"):
                     for changed in changes_of(chance, *most):
-                        kept += judge(room, graph.nodes, most[0], allowed, changed, chance.choice(PIECES), b"", chance.random() < 0.5)
+                        kept += judge(room, graph.nodes, most[0], allowed, changed, chance.choice(PIECES), with_paths=chance.random() < 0.5)
                         changes += 1
         except Wrong as wrong:
             raise Wrong(f"seed {seed}-{number}: {wrong}") from None
     if not (0 < accepted < streams and kept < changes):
         raise Wrong(f"{accepted} of {streams} streams and {kept} of {changes} changed ones were accepted")
     return f"{streams} streams of random jobs, {accepted} accepted, and {changes} with other sections, {kept} accepted"
+
+
+def random_bases(room, seed, graphs):
+    """What `get --without` writes of random jobs, received with the same base. Where it is accepted, it isn't with one section
+    more that the base has."""
+    streams = accepted = doubled = 0
+    for number in range(graphs):
+        chance = random.Random(f"{seed}-{number} base")
+        graph, keys = once.random_graph(chance)
+        (room / "blocks.car").write_bytes(graph.car())
+        try:
+            for index, job in enumerate(once.random_jobs(chance, keys)):
+                files, base = random_base(room, chance, graph)
+                without = [word for file in files for word in ("--without", file)]
+                get = [PROGRAM, "get", "--blocks", room / "blocks.car", *words_of(job, ""), *without]
+                done = subprocess.run(get, capture_output=True, timeout=SECONDS_A_RUN)
+                if not done.stdout:
+                    continue
+                sections = sections_of(done.stdout)[1]
+                if any(key in base for key, _ in sections):
+                    raise Wrong(f"{job[-1]} has a block of the base, over {graph.car().hex()}")
+                allowed = chance.choice(list(ALLOWED))
+                streams += 1
+                if not judge(room, graph.nodes, job, allowed, sections, PIECES[index % 4], base=base, files=files, with_paths=chance.random() < 0.5):
+                    continue
+                accepted += 1
+                if base:
+                    pair = chance.choice(sorted(base.items()))
+                    at = chance.randrange(len(sections) + 1)
+                    more = sections[:at] + [pair] + sections[at:]
+                    doubled += 1
+                    if judge(room, graph.nodes, job, allowed, more, chance.choice(PIECES), base=base, files=files, with_paths=chance.random() < 0.5):
+                        raise Wrong(f"a block of the base was accepted in {job[-1]}, over {graph.car().hex()}")
+        except Wrong as wrong:
+            raise Wrong(f"seed {seed}-{number} base: {wrong}") from None
+    if not (0 < accepted < streams and doubled):
+        raise Wrong(f"{accepted} of {streams} differences were accepted, {doubled} with a block of the base")
+    return f"{streams} differences with their bases, {accepted} accepted, {doubled} with a block of the base more"
+
+
+def random_base(room, chance, graph):
+    """One or two files of a base, and the blocks in them that are known: of each CID the first copy, if that is sound."""
+    copies = []
+    for key, block in sections_of(graph.car())[1]:
+        fate = chance.random()
+        if fate < 0.15:
+            copies.append((key, block + b"!"))
+        if fate < 0.5:
+            copies.append((key, block))
+    chance.shuffle(copies)
+    cut = chance.randrange(len(copies) + 1)
+    files = []
+    for number, part in enumerate((copies[:cut], copies[cut:])[: chance.randrange(1, 3)]):
+        file = room / f"base-{number}.car"
+        file.write_bytes(header([]) + b"".join(section(*pair) for pair in part))
+        files.append(file)
+    first = {}
+    for file in files:
+        for key, block in sections_of(file.read_bytes())[1]:
+            first.setdefault(key, block)
+    known = once.Graph()
+    known.blocks, known.nodes = first, graph.nodes
+    return files, {key: block for key, block in first.items() if once.parts(key)[1] != IDENTITY and known.verdict(key) is None}
 
 
 def changes_of(chance, job, sections):
@@ -332,7 +399,7 @@ def main():
     words = parser.parse_args()
     answers = []
     with tempfile.TemporaryDirectory(prefix="receive-") as room:
-        for part in (random_streams, changed_bytes, cut_streams, random_paths):
+        for part in (random_streams, random_bases, changed_bytes, cut_streams, random_paths):
             try:
                 answers.append(part(pathlib.Path(room), words.seed, words.graphs))
             except Wrong as wrong:

@@ -475,6 +475,65 @@ expect 4 '' 'cannot write -: No space left on device (os error 28)
 {"job":"receive","end":"write","sections":0,"bytes":0,"file":"-"}
 {"total":{"jobs":1,"done":0,"skips":0}}'
 
+# The blocks of a base are here already. The difference is a header of 59 bytes and a section of 79 or of 40.
+begin 'receive: a base, whose blocks do not come'
+base() { bytes "$no_roots" "$@" >base.car; }
+base "$(section "$abc_cid" "$abc")"
+bytes "$(header "$one_cid")" "$(section "$one_cid" "$one")" >input.car
+run "${receive_one[@]}" --with base.car input.car
+expect 0 '' 'receive done visits=2 kept=2 sections=1 bytes=138
+total jobs=1 done=1 skips=0'
+expect_same out/a.car input.car out/a.car
+run verify out/a.car --with base.car
+expect 0 'out/a.car sound sections=1 bytes=138' ''
+rm out/a.car
+run "${receive_one[@]}" input.car
+expected_at 138 "$abc_text" ''
+base "$(section "$one_cid" "$one")"
+bytes "$(header "$one_cid")" "$(section "$abc_cid" "$abc")" >input.car
+run "${receive_one[@]}" --with base.car input.car
+expect 0 '' 'receive done visits=2 kept=2 sections=1 bytes=99
+total jobs=1 done=1 skips=0'
+rm out/a.car
+base "$(section "$abc_cid" "$abc")"
+bytes "$no_roots" "$(section "$one_cid" "$one")" >other.car
+bytes "$(header "$one_cid")" >input.car
+run "${receive_one[@]}" --with base.car --with other.car input.car
+expect 0 '' 'receive done visits=2 kept=2 sections=0 bytes=59
+total jobs=1 done=1 skips=0'
+rm out/a.car
+
+begin 'receive: a block of the base that comes, and damaged copies in it'
+base "$(section "$abc_cid" "$abc")"
+bytes "$one_archive" >input.car
+run "${receive_one[@]}" --with base.car input.car
+rejected 138 "input.car: known at 138: $abc_text: a file of --with has it"
+base "$(section "$abc_cid" 616264)" "$(section "$abc_cid" "$abc")"
+run "${receive_one[@]}" --with base.car input.car
+expect 0 '' "$received_one"
+rm out/a.car
+head -c 138 input.car >cut.car
+mv cut.car input.car
+run "${receive_one[@]}" --with base.car input.car
+expected_at 138 "$abc_text" ''
+
+begin 'receive: the difference that get writes, with its base'
+"$top/ix_export" get --quiet --blocks "$top/examples/library.car" --root "$library_root/notes/today" --out base.car
+for words in "--root $library_root/notes" "--root $library_root/notes/today" "--root $library_root/album --scope block"; do
+  status=0
+  "$top/ix_export" get --blocks "$top/examples/library.car" $words --without base.car --out - 2>told | tee input.car |
+    "$top/ix_export" receive $words --with base.car --out out/a.car 2>"$scratch/stderr" || status=$?
+  expect 0 '' "$(sed 's/^get /receive /; s/ known=[0-9]*//; /^note/d' told)"
+  expect_same out/a.car input.car out/a.car
+  rm out/a.car
+done
+
+begin 'receive: files of a base that are rejected'
+bytes "$one_archive" >input.car
+run "${receive_one[@]}" --with none.car input.car
+refused 'cannot read none.car: No such file or directory (os error 2)'
+expect_folder out
+
 begin 'receive: --progress'
 bytes "$one_archive" >input.car
 run "${receive_one[@]}" input.car --progress
@@ -500,6 +559,7 @@ wrong_asked 'selector: no JSON at 0' --root "$one_text" --selector ''
 wrong_asked "error: invalid value 'x' for '--scope <SCOPE>': it is all, block or entity" --root "$one_text" --scope x
 wrong_asked "error: the argument '--selector <JSON>' cannot be used with '--scope <SCOPE>'" --root "$one_text" --selector "$just_root" --scope all
 wrong_asked "error: invalid value 'x' for '--allow-missing <WHICH>': 'x' is none of raw, dag-cbor and all" --root "$one_text" --allow-missing x
+wrong_asked "error: standard input can't be given for '--with <FILE>'" --root "$one_text" --with -
 wrong_asked "error: invalid value '0' for '--max-block <SIZE>': SIZE is a number of bytes from 1 to 18446744073709551615, or of K, M, G or T, as in 4G or 4GiB" --root "$one_text" --max-block 0
 wrong_asked "error: invalid value for '--root <ROOT>': roots have one path in common: give one \`receive\` per path" --root "$one_text/0,$abc_text/1"
 wrong_asked "--root and --selector: the path, of which each number counts twice, and the selector at its end nest more than 128 deep together" --root "$one_text/$(printf 'a/%.0s' $(seq 120))1/2/3/4" --selector "$just_root"

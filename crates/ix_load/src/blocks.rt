@@ -124,6 +124,28 @@ impl<'a> BlockFiles<'a> {
         })
     }
 
+    /// Reads the paths of what the receiver of an archive has, given by an option to the command that receives it.
+    /// Standard input can't be given: it may be the archive.
+    pub fn of_receiver(
+        alloc: Global,
+        spec: &'static CommandSpec,
+        words: &ArgMatches<'a>,
+        option: &ArgSpec,
+        most: u64,
+    ) -> Result<BlockFiles<'a>, Failure> {
+        let files = BlockFiles {
+            paths: paths_of(alloc, spec, words, option)?,
+            most,
+            reads_carv2: true,
+            prefers_sound: false,
+            is_base: true,
+        };
+        if files.has_standard_input() {
+            return Err(Failure::from(refused_input(alloc, spec, option.name)?));
+        }
+        Ok(files)
+    }
+
     /// Reads the paths of what a receiver has, which are read as these. Standard input can be given once.
     pub(crate) fn base_given(
         &self,
@@ -348,6 +370,16 @@ fn paths_of<'a>(
         paths.push(*path)?;
     }
     Ok(paths)
+}
+
+// Makes the error for standard input that is given for an option that takes files alone.
+fn refused_input(
+    alloc: Global,
+    spec: &'static CommandSpec,
+    option: &str,
+) -> Result<clap::Error, AllocError> {
+    let message = format!(in alloc; "standard input can't be given for '--{option} <FILE>'")?;
+    spec.refusal(alloc, ErrorKind::ValueValidation, message.as_str())
 }
 
 // Makes the error for standard input that is given twice for an option.

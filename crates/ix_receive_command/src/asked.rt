@@ -1,11 +1,11 @@
-//! What is asked for: the job of the arguments, and where the paths of its roots lead.
+//! What is asked for: the job of the arguments, and the paths of its roots.
 
-use crate::path_watch::PathWatch;
 use crate::spec::{LIMIT, ROOT, SPEC};
 use clap::ArgMatches;
 use ix_job_errors::job_fault_words;
 use ix_job_line::{JobWords, SelectorWord, jobs_of_words, selector_hex};
 use ix_load::{NoJobs, RootPaths, Roots, SCOPE, Scope, Unresolved, no_jobs};
+use ix_path::RootPath;
 use ix_walk::Job;
 use std::alloc::{AllocError, Global};
 
@@ -23,8 +23,8 @@ selector at its end nest more than 128 deep together";
 #[derive(Drop)]
 pub(crate) struct Asked {
     pub job: Job,
-    /// Where the paths of the roots lead, as blocks come.
-    pub paths: PathWatch,
+    /// The paths of its roots, if any leads on.
+    pub paths: Vec<RootPath>,
 }
 
 /// Returns what the arguments ask for, or why they are those of no job.
@@ -43,7 +43,7 @@ pub(crate) fn asked_for<'a>(alloc: Global, words: &ArgMatches<'a>) -> Result<Ask
         }
         _ => Ok(Asked {
             job,
-            paths: PathWatch::of_no_path(alloc),
+            paths: Vec::new(alloc),
         }),
     }
 }
@@ -67,10 +67,10 @@ fn asked_along(
         Err(unresolved) => return Err(no_jobs(alloc, unresolved)?),
     };
     let job = job_of(alloc, roots, limit, &SelectorWord::Hex(hex.as_str()))?;
-    match PathWatch::new(alloc, paths.into_paths())? {
-        Ok(paths) => Ok(Asked { job, paths }),
-        Err(line) => Err(no_jobs(alloc, Unresolved::Line(line))?),
-    }
+    Ok(Asked {
+        job,
+        paths: paths.into_paths(),
+    })
 }
 
 // Returns the job of these roots and this selector, or why there is none.

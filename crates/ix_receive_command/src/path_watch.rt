@@ -1,7 +1,7 @@
 //! Where the paths of roots lead, as blocks come.
 
 use ix_car::{Section, read_header, read_section};
-use ix_check::Verdict;
+use ix_check::{Verdict, verdict_in};
 use ix_cid::Cid;
 use ix_cid::code::DAG_CBOR;
 use ix_load::obstacle_line;
@@ -14,10 +14,12 @@ use std::collections::BTreeSet;
 ///
 /// Of one root only the block that its path waits for is looked at, since the blocks on the path come first
 /// and in its order. A path of several roots may lead through a block that came before it waited for it, so
-/// their DAG-CBOR blocks are kept.
+/// their DAG-CBOR blocks are kept. Blocks of the base don't come, so a path goes on through them at once.
 #[derive(Drop)]
-pub(crate) struct PathWatch {
+pub(crate) struct PathWatch<'s> {
     alloc: Global,
+    // The blocks of the base.
+    base: Option<&'s Store>,
     // The paths that wait: each from the block that it waits for.
     waiting: Vec<RootPath>,
     keeps_all: bool,
@@ -49,43 +51,69 @@ enum Lead {
     Nowhere(String),
 }
 
-impl PathWatch {
-    /// Watches no path.
-    pub(crate) fn of_no_path(alloc: Global) -> PathWatch {
-        PathWatch {
-            alloc,
-            waiting: Vec::new(alloc),
-            keeps_all: false,
-            blocks: Store::new(alloc),
-            leaves: BTreeSet::new(alloc),
-            has_header: false,
-        }
-    }
-
-    /// Watches paths of which no block has come. Returns a line if one ends in an identity CID without
-    /// leading to its end.
+impl<'s> PathWatch<'s> {
+    /// Watches paths of which no block has come. Returns a line if one ends in an identity CID, or in the
+    /// blocks of the base, without leading to its end.
     pub(crate) fn new(
         alloc: Global,
         paths: Vec<RootPath>,
-    ) -> Result<Result<PathWatch, String>, AllocError> {
-        let mut watch = PathWatch::of_no_path(alloc);
-        watch.keeps_all = paths.len() > 1;
+        base: Option<&'s Store>,
+    ) -> Result<Result<PathWatch<'s>, String>, AllocError> {
+        let mut watch = PathWatch {
+            alloc,
+            base,
+            waiting: Vec::new(alloc),
+            keeps_all: paths.len() > 1,
+            blocks: Store::new(alloc),
+            leaves: BTreeSet::new(alloc),
+            has_header: false,
+        };
         match watch.follow_all(paths)? {
             None => Ok(Ok(watch)),
-            Some(line) => Ok(Err(line)),
+            Some(line) => Ok(Err(format!(in alloc; "--root: {line}")?)),
         }
     }
 
     // Follows paths as far as the blocks lead. Returns what there is instead of the end of one.
     fn follow_all(&mut self, paths: Vec<RootPath>) -> Result<Option<String>, AllocError> {
         for path in paths {
-            match followed(self.alloc, &self.blocks, &self.leaves, path)? {
+            match self.followed(path)? {
                 Lead::ToEnd => {}
                 Lead::To(rest) => self.waiting.push(rest)?,
                 Lead::Nowhere(line) => return Ok(Some(line)),
             }
         }
         Ok(None)
+    }
+
+    // Follows a path as far as the blocks lead, from those that are here to those of the base, and back.
+    fn followed(&self, path: RootPath) -> Result<Lead, AllocError> {
+        let none = BTreeSet::new(self.alloc);
+        let mut path = path;
+        for _ in 0..u64::MAX {
+            let rest = match followed(self.alloc, &self.blocks, &self.leaves, path)? {
+                Lead::To(rest) => rest,
+                lead => return Ok(lead),
+            };
+            let Some(base) = self.base_with(&rest.root) else {
+                return Ok(Lead::To(rest));
+            };
+            path = match followed(self.alloc, base, &none, rest)? {
+                Lead::To(rest) => rest,
+                lead => return Ok(lead),
+            };
+        }
+        Ok(Lead::To(path))
+    }
+
+    // Returns the base, if it has the block of a CID, and that is sound.
+    fn base_with(&self, cid: &Cid) -> Option<&'s Store> {
+        let base = self.base?;
+        if verdict_in(base, cid) == Verdict::Sound {
+            Some(base)
+        } else {
+            None
+        }
     }
 
     /// Looks at the next bytes that were checked: the header, and whole sections. Returns the first place
@@ -186,7 +214,8 @@ fn sections_in(bytes: &[u8]) -> u64 {
     count
 }
 
-// Follows a path as far as the blocks lead: those that are here, and leaves, which are byte strings.
+// Follows a path as far as some blocks lead, and leaves, which are byte strings. A block that is damaged is
+// as if it were absent.
 fn followed(
     alloc: Global,
     blocks: &Store,
@@ -200,7 +229,7 @@ fn followed(
     };
     let steps = found.steps.len();
     let missing = match (obstacle, found.blocks.last()) {
-        (Obstacle::Block(Verdict::Missing), Some(cid)) => cid,
+        (Obstacle::Block(Verdict::Missing | Verdict::Damaged), Some(cid)) => cid,
         _ => return Ok(Lead::Nowhere(obstacle_line(alloc, &path, &found, obstacle)?)),
     };
     if !leaves.contains(missing) {

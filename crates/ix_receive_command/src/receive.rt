@@ -4,16 +4,20 @@ use crate::asked::{Asked, asked_for};
 use crate::path_watch::PathWatch;
 use crate::report::Report;
 pub use crate::spec::SPEC;
-use crate::spec::{ANY_HEADER, FILE, MAX_BLOCK, OUT, PATHS};
+use crate::spec::{ANY_HEADER, FILE, MAX_BLOCK, OUT, PATHS, WITH};
 use crate::stream::{Ended, Incoming, Outcome, Reception, Request};
 use clap::ArgMatches;
 use ix_cid::code::{DAG_CBOR, RAW};
-use ix_cli_io::{Failure, Output, Progress, ProgressMode, REFUSED, STANDARD_INPUT, occupy_std_fds};
-use ix_load::{NoJobs, allowed_missing};
+use ix_cli_io::{
+    ANY_SIZE, Failure, Output, Progress, ProgressMode, REFUSED, STANDARD_INPUT, occupy_std_fds,
+};
+use ix_load::{BlockFiles, LoadedBlocks, NoJobs, allowed_missing};
 use ix_options::{
-    Host, JSON, NO_SYNC, QUIET, Terminals, given_size, output_path, print_refusal, progress_mode,
+    Host, JSON, NO_SYNC, QUIET, Terminals, at_most_processors, given_size, output_path,
+    print_refusal, progress_mode,
 };
 use ix_own_archive::{AllowMissing, ExpectedHeader};
+use ix_store::Store;
 use ix_walk::Job;
 use std::alloc::{AllocError, Global};
 use std::fs;
@@ -22,11 +26,14 @@ use std::io::{self, Read, Write};
 // The status of a stream that isn't accepted, or whose archive can't be written.
 const NOT_RECEIVED: u8 = 4;
 
+// How many threads read the files of the base at most.
+const LOADERS: usize = 8;
+
 // The greatest length of a section where none is given.
 const MOST_SECTION: u64 = 8 * 1024 * 1024;
 
 /// Runs the command and returns the status. Its first error is reported, checked in this order: arguments,
-/// the beginning of the stream, output, and the stream.
+/// the files of the base, the beginning of the stream, output, and the stream.
 pub fn run<'a, R: Host>(
     rt: &R,
     words: &ArgMatches<'a>,
@@ -38,11 +45,26 @@ pub fn run<'a, R: Host>(
         Err(NoJobs::Failure(failure)) => return Err(failure),
         Err(NoJobs::Line(line)) => return print_refusal(rt, Ok(line)),
     };
+    let Asked { job, paths } = asked;
+    let loaded = command.load_base(rt)?;
+    let base = match &loaded {
+        Some(blocks) => Some(store_of(blocks)),
+        None => None,
+    };
+    let paths = match PathWatch::new(rt.alloc(), paths, base)? {
+        Ok(paths) => paths,
+        Err(line) => return print_refusal(rt, Ok(line)),
+    };
+    let wanted = Wanted {
+        job: &job,
+        base,
+        paths,
+    };
     if command.input == STANDARD_INPUT {
-        return command.receive(rt, asked, rt.reader());
+        return command.receive(rt, wanted, rt.reader());
     }
     match fs::open(rt, command.input) {
-        Ok(file) => command.receive(rt, asked, file),
+        Ok(file) => command.receive(rt, wanted, file),
         Err(error) => Err(Failure::cannot_read(rt.alloc(), command.input, &error)),
     }
 }
@@ -54,6 +76,8 @@ struct ReceiveCommand<'a> {
     input: &'a str,
     // The path of the archive, or None for standard output.
     path: Option<&'a str>,
+    // The files whose blocks are here already.
+    base: BlockFiles<'a>,
     // Which blocks may be missing, if that was given.
     allowed: Option<AllowMissing>,
     header: ExpectedHeader,
@@ -85,6 +109,7 @@ impl<'a> ReceiveCommand<'a> {
         Ok(ReceiveCommand {
             input: FILE.optional_text(words).unwrap_or(STANDARD_INPUT),
             path,
+            base: BlockFiles::of_receiver(alloc, &SPEC, words, &WITH, ANY_SIZE)?,
             allowed,
             header: if ANY_HEADER.is_given(words) {
                 ExpectedHeader::Any
@@ -100,12 +125,25 @@ impl<'a> ReceiveCommand<'a> {
         })
     }
 
+    // Loads the blocks that are here already, if files of them are given.
+    fn load_base<R: Host>(&self, rt: &R) -> Result<Option<LoadedBlocks>, Failure> {
+        if self.base.paths().is_empty() {
+            return Ok(None);
+        }
+        let threads = at_most_processors(rt, LOADERS);
+        let progress = Progress::new(rt, self.progress);
+        let files = self.base.read(rt, threads, &progress)?;
+        let blocks = self.base.store_of(rt, files, threads)?;
+        progress.end();
+        Ok(Some(blocks))
+    }
+
     // Receives a stream. Closed streams are occupied, and the output is created, only once the first bytes
     // came, so a closed standard input is an error and not an empty input.
     fn receive<R: Host, I: Read + Drop>(
         &self,
         rt: &R,
-        asked: Asked,
+        wanted: Wanted<'_>,
         input: I,
     ) -> Result<u8, Failure> {
         let incoming = match Incoming::begin(rt.alloc(), input) {
@@ -116,12 +154,7 @@ impl<'a> ReceiveCommand<'a> {
             Err(_) => return Err(Failure::from(AllocError)),
         };
         let _streams = occupy_std_fds(rt)?;
-        let Asked { job, paths } = asked;
-        let stream = Stream {
-            job: &job,
-            paths,
-            incoming,
-        };
+        let stream = Stream { wanted, incoming };
         match self.path {
             None => self.pass_on(rt, stream),
             Some(path) => self.store(rt, path, stream),
@@ -134,7 +167,7 @@ impl<'a> ReceiveCommand<'a> {
         rt: &R,
         stream: Stream<'_, I>,
     ) -> Result<u8, Failure> {
-        let job = stream.job;
+        let job = stream.wanted.job;
         let outcome = self.take(rt, stream, io::writer(rt))?;
         self.report(job, "-").print(rt, &outcome, true);
         Ok(status_of(&outcome.ended))
@@ -147,8 +180,10 @@ impl<'a> ReceiveCommand<'a> {
         path: &str,
         stream: Stream<'_, I>,
     ) -> Result<u8, Failure> {
-        let job = stream.job;
-        let output = Output::create(rt, path, &[self.input], self.is_synced)?;
+        let job = stream.wanted.job;
+        let mut inputs = Vec::from_slice(rt.alloc(), self.base.paths())?;
+        inputs.push(self.input)?;
+        let output = Output::create(rt, path, inputs.as_slice(), self.is_synced)?;
         let outcome = match self.take(rt, stream, &output) {
             Ok(outcome) => outcome,
             Err(failure) => {
@@ -176,17 +211,16 @@ impl<'a> ReceiveCommand<'a> {
         stream: Stream<'_, I>,
         writer: W,
     ) -> Result<Outcome, Failure> {
-        let Stream {
-            job,
-            paths,
-            incoming,
-        } = stream;
+        let Stream { wanted, incoming } = stream;
+        let Wanted { job, base, paths } = wanted;
         let request = Request {
             alloc: rt.alloc(),
             job,
+            base,
             allowed: self.allowed.unwrap_or(AllowMissing::none()),
             header: self.header,
             most: self.most,
+            has_paths: self.has_paths,
         };
         let progress = Progress::new(rt, self.progress);
         let outcome = Reception::new(request, paths, writer)?.receive(incoming, &progress);
@@ -210,12 +244,24 @@ impl<'a> ReceiveCommand<'a> {
     }
 }
 
+// What is asked for, beside the blocks that are here already.
+#[derive(Drop)]
+struct Wanted<'s> {
+    job: &'s Job,
+    base: Option<&'s Store>,
+    paths: PathWatch<'s>,
+}
+
 // A stream of which a piece was read, and what is asked of it.
 #[derive(Drop)]
 struct Stream<'s, I> {
-    job: &'s Job,
-    paths: PathWatch,
+    wanted: Wanted<'s>,
     incoming: Incoming<I>,
+}
+
+// Returns the store of blocks that were loaded.
+fn store_of(blocks: &LoadedBlocks) -> &Store {
+    &blocks.store
 }
 
 // Returns the status of a stream.

@@ -70,14 +70,18 @@ impl<'a> Report<'a> {
     // Returns the visit at which a stream stopped, if it is asked for, and is one of the job. If memory runs
     // out for it, a line on standard error says so.
     fn stop_place<R: AllocGlobal + Eprint>(&self, rt: &R, outcome: &Outcome) -> Option<StopPlace> {
-        let (Ended::Rejected(rejection), Some(kept)) = (&outcome.ended, &outcome.kept) else {
+        let Ended::Rejected(rejection) = &outcome.ended else {
             return None;
         };
         let cid = rejection.stopped_at.as_ref()?;
         if !self.has_paths {
             return None;
         }
-        match first_visit(rt.alloc(), kept, self.job, cid) {
+        let found = match &outcome.kept {
+            Some(kept) => first_visit(rt.alloc(), kept, self.job, cid),
+            None => Err(AllocError),
+        };
+        match found {
             Ok(stop) => stop,
             Err(_) => {
                 let _ = rt.eprintln(NO_PATHS);
@@ -96,11 +100,9 @@ impl<'a> Report<'a> {
         is_named: bool,
     ) -> Result<Vec<u8>, AllocError> {
         let alloc = rt.alloc();
-        if self.has_paths
-            && counts.missing > 0
-            && let Some(kept) = &outcome.kept
-        {
-            if let Ok(listed) = ListedVisits::of_missing(alloc, kept, self.job)
+        if self.has_paths && counts.missing > 0 {
+            if let Some(kept) = &outcome.kept
+                && let Ok(listed) = ListedVisits::of_missing(alloc, kept, self.job)
                 && let Ok(report) = self.with_visits(alloc, outcome, counts, is_named, listed)
             {
                 return Ok(report);

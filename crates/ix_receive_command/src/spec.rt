@@ -36,6 +36,13 @@ accepted, as in `get`, and stays otherwise, with sound sections alone. With\n\
 --out - the sections go to standard output, which must not be a terminal, as\n\
 they are checked.\n\
 \n\
+With --with the blocks of these files are here already, those whose first copy\n\
+is sound. The archive is the difference that `get --without` writes for them: a\n\
+section whose block is in the base is rejected.\n\
+\n\
+\x20 ix_export get --blocks library.car --root CID --without old.car --out - |\n\
+\x20   ix_export receive --root CID --with old.car --out update.car\n\
+\n\
 A section of more than 8 MiB, CID and block, is rejected before it is read, or\n\
 of more than --max-block says.\n\
 \n\
@@ -57,6 +64,12 @@ pub(crate) const ROOT: ArgSpec = ArgSpec {
     name: "root",
     given: ArgKind::Required("ROOT[,..]"),
     help: "1 to 64 of CID[/PATH]",
+};
+
+pub(crate) const WITH: ArgSpec = ArgSpec {
+    name: "with",
+    given: ArgKind::OptionalMany("FILE"),
+    help: "Take what this CARv1 has sound; several add up",
 };
 
 pub(crate) const LIMIT: ArgSpec = ArgSpec {
@@ -107,6 +120,7 @@ pub static SPEC: CommandSpec = CommandSpec {
         SELECTOR,
         SELECTOR_HEX,
         LIMIT,
+        WITH,
         ALLOW_MISSING,
         ANY_HEADER,
         OUT,

@@ -2,6 +2,7 @@
 
 use crate::path_watch::PathWatch;
 use crate::rejection::Rejection;
+use crate::visit_paths::add_base;
 use ix_car::{CarKind, header_of};
 use ix_cid::read_varint;
 use ix_cli_io::Progress;
@@ -55,7 +56,7 @@ pub(crate) struct Outcome {
     pub ended: Ended,
     pub sections: u64,
     pub bytes: u64,
-    /// What was kept of the sections, if that shows where the stream stopped, or what is missing.
+    /// The blocks over which visits are reported, if a report may have any.
     pub kept: Option<Store>,
 }
 
@@ -119,10 +120,28 @@ fn read_some<I: Read>(input: &mut I, buffer: &mut [u8]) -> io::Result<usize> {
 pub(crate) struct Request<'s> {
     pub alloc: Global,
     pub job: &'s Job,
+    /// The blocks that are here already.
+    pub base: Option<&'s Store>,
     pub allowed: AllowMissing,
     pub header: ExpectedHeader,
     /// The greatest length of a section.
     pub most: usize,
+    /// Whether it is asked where visits are.
+    pub has_paths: bool,
+}
+
+impl<'s> Request<'s> {
+    // Returns the blocks over which visits are reported: what was kept, and those of the base if it is asked where
+    // visits are. There are none if memory runs out.
+    fn with_base(&self, kept: Store) -> Option<Store> {
+        let mut blocks = kept;
+        if self.has_paths
+            && let Some(base) = self.base
+        {
+            add_base(&mut blocks, base).ok()?;
+        }
+        Some(blocks)
+    }
 }
 
 /// A stream that is checked, and of which is written what is checked.
@@ -130,7 +149,7 @@ pub(crate) struct Request<'s> {
 pub(crate) struct Reception<'s, W> {
     request: Request<'s>,
     receiver: StreamReceiver<'s>,
-    paths: PathWatch,
+    paths: PathWatch<'s>,
     writer: W,
     // How many sections and bytes were written.
     sections: u64,
@@ -141,23 +160,29 @@ impl<'s, W: Write + Drop> Reception<'s, W> {
     /// Creates the reception of a stream of which nothing has come.
     pub(crate) fn new(
         request: Request<'s>,
-        paths: PathWatch,
+        paths: PathWatch<'s>,
         writer: W,
     ) -> Result<Reception<'s, W>, AllocError> {
         let Request {
             alloc,
             job,
+            base,
             allowed,
             header,
             most,
+            has_paths: _,
         } = request;
         let limits = StreamLimits {
             header: MOST_HEADER,
             section: most,
         };
+        let receiver = match base {
+            Some(base) => { StreamReceiver::with_base(alloc, job, base, allowed, header, limits)? }
+            None => StreamReceiver::new(alloc, job, allowed, header, limits)?,
+        };
         Ok(Reception {
             request,
-            receiver: StreamReceiver::new(alloc, job, allowed, header, limits)?,
+            receiver,
             paths,
             writer,
             sections: 0,
@@ -246,7 +271,7 @@ impl<'s, W: Write + Drop> Reception<'s, W> {
     // Ends the stream that stopped.
     fn stop(self, ended: Ended) -> Outcome {
         let Reception {
-            request: _,
+            request,
             receiver,
             paths,
             writer,
@@ -255,12 +280,11 @@ impl<'s, W: Write + Drop> Reception<'s, W> {
         } = self;
         drop(paths);
         drop(writer);
-        let kept = match &ended {
-            Ended::Rejected(rejection) if rejection.stopped_at.is_some() => {
-                let (_, kept) = receiver.finish_kept();
-                Some(kept)
-            }
-            _ => None,
+        let kept = if shows_visits(&ended) {
+            let (_, kept) = receiver.finish_kept();
+            request.with_base(kept)
+        } else {
+            None
         };
         Outcome {
             ended,
@@ -288,12 +312,26 @@ impl<'s, W: Write + Drop> Reception<'s, W> {
             },
             Err(ended) => ended,
         };
+        let kept = if shows_visits(&ended) {
+            request.with_base(kept)
+        } else {
+            None
+        };
         Outcome {
             ended,
             sections,
             bytes,
-            kept: Some(kept),
+            kept,
         }
+    }
+}
+
+// Whether a report may have visits: those of blocks that are missing, or the one at which a stream stopped.
+fn shows_visits(ended: &Ended) -> bool {
+    match ended {
+        Ended::Accepted(counts) => counts.missing > 0,
+        Ended::Rejected(rejection) => rejection.stopped_at.is_some(),
+        Ended::NoCar(_) | Ended::Unreadable(_) | Ended::Unwritable(_) | Ended::Memory => false,
     }
 }
 
@@ -301,7 +339,7 @@ impl<'s, W: Write + Drop> Reception<'s, W> {
 fn finished(
     request: &Request<'_>,
     counts: Result<Counts, StreamFault>,
-    paths: &PathWatch,
+    paths: &PathWatch<'_>,
     bytes: u64,
     front: &[u8],
 ) -> Result<Counts, Ended> {

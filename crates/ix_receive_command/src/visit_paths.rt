@@ -1,8 +1,9 @@
 //! The option `--paths`: where the blocks are that are missing, and where a stream stopped.
 
 use ix_archive::Skip;
-use ix_check::Verdict;
+use ix_check::{Verdict, verdict_in};
 use ix_cid::Cid;
+use ix_cid::code::DAG_CBOR;
 use ix_store::Store;
 use ix_trace::trace;
 use ix_verdict::{Needed, bytes_needed};
@@ -48,6 +49,19 @@ impl ListedVisits {
         paths.resize_with(numbers.len(), || None)?;
         Ok(ListedVisits { skips, paths })
     }
+}
+
+/// Adds the sound blocks of a base to what was kept of an archive: those that are DAG-CBOR, and of every other one
+/// its CID, with no bytes.
+pub(crate) fn add_base(kept: &mut Store, base: &Store) -> Result<(), AllocError> {
+    for place in 0..base.len() {
+        let cid = base.cid_at(place)?;
+        if verdict_in(base, &cid) == Verdict::Sound {
+            let is_node = cid.codec() == DAG_CBOR;
+            kept.add_copy(cid, if is_node { base.bytes(place) } else { &[] })?;
+        }
+    }
+    Ok(())
 }
 
 // Returns the visits of a job whose blocks are missing.
