@@ -23,7 +23,7 @@ expect_text report "$(cat "$top/examples/expected/report.txt")" \
 
 # commands_in SECTION: the lines of a section of README that set a variable or run the program, or compare.
 commands_in() {
-  sed -n "/^## $1\$/,/^## /p" "$top/README.md" | grep -E '^    (root=|everything=|\./ix_export get |cmp )'
+  sed -n "/^## $1\$/,/^## /p" "$top/README.md" | grep -E '^    (root=|everything=|\./ix_export (get|receive) |cmp )'
 }
 
 # answer COMMAND LINE..: the command prints these lines, or any if there are none.
@@ -63,6 +63,9 @@ expect_same whole.car "$top/examples/expected/whole.car" whole.car
 expect_same restored.car "$top/examples/expected/whole.car" restored.car
 expect_text 'the line of the difference' "$(sed -n '/^## Snapshots/,/^## /s/^    \(get done .*\)/\1/p' "$top/README.md")" \
   "$(grep ' known=' "$scratch/stderr")"
+expect_text 'the report of what is received' "$(sed -n '/^## Snapshots/,/^## /{/^    receive done/,/^    total/s/^    //p}' "$top/README.md")" \
+  "$(sed -n '/^receive done visits=10/,/^total/p' "$scratch/stderr")"
+expect_same update.car new.car update.car
 
 # The bytes of a section with a block of so many bytes, under a CID of 36.
 section_size() {
