@@ -519,7 +519,7 @@ expected_at 138 "$abc_text" ''
 
 begin 'receive: the difference that get writes, with its base'
 "$top/ix_export" get --quiet --blocks "$top/examples/library.car" --root "$library_root/notes/today" --out base.car
-for words in "--root $library_root/notes" "--root $library_root/notes/today" "--root $library_root/album --scope block"; do
+for words in "--root $library_root/album/cover" "--root $library_root/notes/today" "--root $library_root/album --scope block"; do
   status=0
   "$top/ix_export" get --blocks "$top/examples/library.car" $words --without base.car --out - 2>told | tee input.car |
     "$top/ix_export" receive $words --with base.car --out out/a.car 2>"$scratch/stderr" || status=$?
