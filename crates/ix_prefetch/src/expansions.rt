@@ -431,6 +431,22 @@ impl<'a> Expansions<'a> {
             None => Ok(()),
         }
     }
+
+    /// Does the same with the residual of this number, if there is one.
+    pub(crate) fn add_numbered(
+        &mut self,
+        alloc: Global,
+        place: u32,
+        number: u16,
+    ) -> Result<(), AllocError>
+        ensures { AddsSome self.old self.new }
+    {
+        if number as usize >= self.residuals.len() {
+            return Ok(());
+        }
+        let residual = self.residuals[number as usize].try_clone(alloc)?;
+        self.add(alloc, place, &residual)
+    }
 }
 
 // Returns the bounds of a list as they are kept.
