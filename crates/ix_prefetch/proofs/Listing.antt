@@ -40,8 +40,7 @@ list_empty t l le = let z : l.to - l.from ≡ 0 = omega arith in ap (λ (k : ℕ
 -- it is the link that the table has there
 pub first_is : (t : ExpansionTable) (l : ListLeft) (link : LinkAt) → l.from < l.to → l.to ≤ length t.links → IsLinkAt t l.from link → IsFirst t l (Listed link l.depth)
 first_is t l (Stored residual place pair) lt within is =
-    let f : PendingLink = waiting (residual_in t residual) 0 (cid_at t.store place) in
-    (
+    let f : PendingLink = waiting (residual_in t residual) 0 (cid_at t.store place) in (
       list_first t l f lt within ∙ ap (λ (x : PendingLink). at_depth l.depth x ∷ list_links t (rest_of l)) (get_or_from_slice_get t.links l.from f f is.2),
       (is.0, is.1),
     )

@@ -76,11 +76,7 @@ impl<'a> Model for Expansions<'a> {
 
 impl<'a> Expansions<'a> {
     /// Creates a table with no expansion.
-    pub fn new(
-        alloc: Global,
-        store: &'a Store,
-        job: &'a Job,
-    ) -> Result<Expansions<'a>, AllocError>
+    pub fn new(alloc: Global, store: &'a Store, job: &'a Job) -> Result<Expansions<'a>, AllocError>
         ensures store { IfOk result (λ t. t.store ≡ store.now) }
         ensures job { IfOk result (λ t. t.job ≡ job.now) }
     {
@@ -160,11 +156,7 @@ impl<'a> Expansions<'a> {
     }
 
     // Adds a residual, and returns its number.
-    fn add_residual(
-        &mut self,
-        alloc: Global,
-        residual: &Residual<'a>,
-    ) -> Result<u16, AllocError>
+    fn add_residual(&mut self, alloc: Global, residual: &Residual<'a>) -> Result<u16, AllocError>
         requires { IsMet self.old.job.selector residual.now }
         ensures adds { Adds self.old self.new [] }
         ensures number { IfOk result (HasNumber self.new residual.now) }
@@ -250,11 +242,7 @@ impl<'a> Expansions<'a> {
     }
 
     // Appends links, each without its depth.
-    fn push_links(
-        &mut self,
-        alloc: Global,
-        links: &[PendingLink<'a, 'a>],
-    ) -> Result<(), AllocError>
+    fn push_links(&mut self, alloc: Global, links: &[PendingLink<'a, 'a>]) -> Result<(), AllocError>
         requires { All (λ f. IsMet self.old.job.selector f.residual) links.now }
         ensures added { OnOk result (Adds self.old self.new (map (at_depth 0) links.now)) }
         ensures err { OnErr result (AddsSome self.old self.new) }
@@ -343,7 +331,11 @@ impl<'a> Expansions<'a> {
         ensures block { IfOk result (AddsBlock self.old self.new block.entry.cid residual.now) }
         ensures err { OnErr result (AddsSome self.old self.new) }
     {
-        let Block { place, cid: _, bytes } = block;
+        let Block {
+            place,
+            cid: _,
+            bytes,
+        } = block;
         let once = self.job.visits_links_once();
         if once && !has_tag(bytes.bytes()) {
             return Ok(true);

@@ -27,6 +27,3 @@ mod visiting;
 
 pub use expansions::Expansions;
 pub use table_walk::TableWalk;
-
-#[cfg(test)]
-mod tests;

@@ -10,16 +10,30 @@ use ix_cid::CidRef;
 pub(crate) enum Link {
     // To a block of the store, by its place, under a CID of a known codec that names it by its hash.
     // The pair of the place and the residual may have that number.
-    Stored { residual: u16, place: u32, pair: u32 },
+    Stored {
+        residual: u16,
+        place: u32,
+        pair: u32,
+    },
     // To any other CID, by its number.
-    Written { residual: u16, cid: u32 },
+    Written {
+        residual: u16,
+        cid: u32,
+    },
 }
 
 /// A link of a list, with its CID if that isn't known by a place.
 #[derive(Drop)]
 pub(crate) enum LinkAt<'a> {
-    Stored { residual: u16, place: u32, pair: u32 },
-    Written { residual: u16, cid: CidRef<'a> },
+    Stored {
+        residual: u16,
+        place: u32,
+        pair: u32,
+    },
+    Written {
+        residual: u16,
+        cid: CidRef<'a>,
+    },
 }
 
 /// A block of the store with a residual, and where in the links of the table its list is: in sixteen

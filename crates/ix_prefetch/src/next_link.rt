@@ -37,10 +37,7 @@ fn take_root<'a>(roots: &mut &'a [Cid]) -> Option<Next<'a>>
 }
 
 /// Takes the next link of what waits, or the next root if nothing does.
-pub(crate) fn next_link<'a>(
-    table: &Expansions<'a>,
-    state: &mut TableState<'a>,
-) -> Option<Next<'a>>
+pub(crate) fn next_link<'a>(table: &Expansions<'a>, state: &mut TableState<'a>) -> Option<Next<'a>>
     requires { IsWithin table.now state.old }
     ensures { IsNextLink table.now state.old result state.new }
 {

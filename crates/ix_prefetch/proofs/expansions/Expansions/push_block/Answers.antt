@@ -16,8 +16,7 @@ returns-in_err-links-clause-err c = on_err c.from_residual-in_err-links.result (
 
 pub returns-then-not-hash_matches-clause-block : goal.returns-then-not-hash_matches-clause-block
 returns-then-not-hash_matches-clause-block c =
-    let b = c.args.block in
-    (
+    let b = c.args.block in (
       damaged c.args.self.now.store b.cid b.bytes b.place c.hash_matches.result c.requires.block
           (subst (λ (s : Blocks). c.hash_matches.result ≡ get_or (map hash_matches s) b.place false) (ap (λ (t : ExpansionTable). t.store) c.self.view_is) c.hash_matches.ensures) c.if-not-hash_matches.true,
       refl,
