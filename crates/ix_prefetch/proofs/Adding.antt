@@ -50,13 +50,6 @@ adds_then a b c xs ys one two = record {
 pub adds_same : (old new : ExpansionTable) (xs ys : List PendingLink) → xs ≡ ys → Adds old new xs → Adds old new ys
 adds_same old new xs ys e adds = subst (Adds old new) e adds
 
--- one more link of some
-pub adds_more : (a b c : ExpansionTable) (xs : List PendingLink) (i : ℕ) (f : PendingLink) → i < length xs → f ≡ get_or xs i f → Adds a b (map (at_depth 0) (take i xs)) → Adds b c (at_depth 0 f ∷ []) → Adds a c (map (at_depth 0) (take (i + 1) xs))
-adds_more a b c xs i f lt is before next =
-    adds_same a c _ _
-    (ap (λ (x : PendingLink). map (at_depth 0) (take i xs) ++ at_depth 0 x ∷ []) is ∙ sym (map_more (at_depth 0) xs i f lt))
-    (adds_then a b c (map (at_depth 0) (take i xs)) (at_depth 0 f ∷ []) before next)
-
 -- ---- a block
 
 -- the links of a block, without their depth, are those of its data
@@ -68,10 +61,6 @@ block_links store c bytes places links value are =
 pub links_met : (s : Pattern) (store : Blocks) (c bytes : List ℕ) (places : List Place) (links : List PendingLink) → IsSelector s → IsMet s places → IsValue (value_of store c) (Some bytes) → AreLinksIn bytes places 0 links
     → All (λ f. IsMet s f.residual) links
 links_met s store c bytes places links is met value are = subst (HaveRests s) (sym (are value.0 value.2)) (rests_below s (followed s (λ p. left-entered s is p)) 0 places value.0 met)
-
--- where there are no data, there are no links
-pub no_links : (t : ExpansionTable) (c : List ℕ) (places : List Place) → IsValue (value_of t.store c) None → Adds t t (links_inside places 0 (value_of t.store c))
-no_links t c places none = adds_same t t [] (links_inside places 0 (value_of t.store c)) (sym (ap (λ (o : Option Data). links_inside places 0 o) none)) (adds_nothing t)
 
 -- ---- a pair
 
@@ -158,9 +147,6 @@ shown_length store job rs cs ls t n shows is = is ∙ sym (length-map ls (pendin
 -- what is known of a block is known after a residual was added
 pub read_still : (old mid : ExpansionTable) (place : ℕ) (r : Read) → Adds old mid [] → IsReadAt old.store place r → IsReadAt mid.store place r
 read_still old mid place r adds is = subst (λ (s : Blocks). IsReadAt s place r) (sym adds.store) is
-
-pub met_still : (old mid : ExpansionTable) (places : List Place) → Adds old mid [] → IsMet old.job.selector places → IsMet mid.job.selector places
-met_still old mid places adds is = subst (λ (j : JobMeaning). IsMet j.selector places) (sym adds.job) is
 
 -- the pair of a block whose links were added
 pub pair_read : (mid new : ExpansionTable) (place number from to : ℕ) (places : List Place) (r : Read) (barren : Bool) → IsReadAt mid.store place r → HasNumber mid places number → from ≡ length mid.links → to ≡ length new.links → AddsBlock mid new r.cid places barren

@@ -65,19 +65,6 @@ all_last P xs ys x e all =
 
 -- ---- the next link
 
--- the first of the list that the walk is in
-pub next_first : (t : ExpansionTable) (old : TableState) (at : ListLeft) (next : Next) → IsWithin t old → IsFirst t old.at next → at ≡ rest_of old.at → IsNextLink t old (Some next) (record old { at = at })
-next_first t old at next within first rest =
-    record {
-      links =
-          ap (λ (fs : List PendingLink). (fs ++ all_links_of t (reverse old.waiting.items)) ++ map (root_link t.job.selector) old.roots.now) first.0
-          ∙ ap (λ (l : ListLeft). next_pending t next ∷ ((list_links t l ++ all_links_of t (reverse old.waiting.items)) ++ map (root_link t.job.selector) old.roots.now)) (sym rest);
-      next = first.1;
-      ends = tt;
-      within = record { list = subst (λ (l : ListLeft). l.to ≤ length t.links) (sym rest) within.list; waits = within.waits };
-      expanded = refl;
-    }
-
 -- where that is empty, the links that wait come next
 popped : (t : ExpansionTable) (old : TableState) (waits : Vec Waits) (w : Waits) → old.at.to ≤ old.at.from → old.waiting.items ≡ waits.items ++ w ∷ []
     → links_left t old ≡ (links_of t w ++ all_links_of t (reverse waits.items)) ++ map (root_link t.job.selector) old.roots.now
@@ -128,39 +115,6 @@ nothing_waits t at ws empty none =
 pub puts_nothing : (t : ExpansionTable) (s : TableState) → IsWithin t s → PutsBefore t [] s s
 puts_nothing t s within = record { before = refl; within = within; expanded = refl; roots = refl }
 
--- what is left of a list waits
-pub list_waits : (t : ExpansionTable) (old : TableState) (waits : Vec Waits) → IsWithin t old → old.at.from < old.at.to → waits.items ≡ old.waiting.items ++ Listing old.at ∷ []
-    → PutsBefore t [] old (record old { at = record old.at { from = old.at.to }; waiting = waits })
-list_waits t old waits within lt put =
-    let empty : ListLeft = record old.at { from = old.at.to } in
-    record {
-      before =
-          ap (λ (fs : List PendingLink). fs ++ all_links_of t (reverse waits.items)) (list_empty t empty (omega arith))
-          ∙ last_first t waits.items old.waiting.items (Listing old.at) put;
-      within = record {
-        list = within.list;
-        waits = subst (All (IsWaiting t)) (sym put) (All-append (IsWaiting t) old.waiting.items (Listing old.at ∷ []) within.waits (All-cons (IsWaiting t) (Listing old.at) [] (lt, within.list) (All-nil (IsWaiting t))));
-      };
-      expanded = refl;
-      roots = refl;
-    }
-
--- after that another list is put there
-pub list_put : (t : ExpansionTable) (old mid : TableState) (list : ListLeft) → list.to ≤ length t.links → PutsBefore t [] old mid → list_links t mid.at ≡ [] → PutsBefore t (list_links t list) old (record mid { at = list })
-list_put t old mid list within puts empty =
-    record {
-      before =
-          ap (λ (fs : List PendingLink). list_links t list ++ fs)
-          (ap (λ (fs : List PendingLink). fs ++ all_links_of t (reverse mid.waiting.items)) (sym empty) ∙ puts.before);
-      within = record { list = within; waits = puts.within.waits };
-      expanded = puts.expanded;
-      roots = puts.roots;
-    }
-
--- an empty one changes nothing
-pub empty_put : (t : ExpansionTable) (s : TableState) (list : ListLeft) → IsWithin t s → list.from ≡ list.to → PutsBefore t (list_links t list) s s
-empty_put t s list within e = subst (λ (fs : List PendingLink). PutsBefore t fs s s) (sym (list_empty t list (omega arith))) (puts_nothing t s within)
-
 -- some of the links were put before what waits; these are still to be put before them
 pub record ArePut (t : ExpansionTable) (all links : List PendingLink) (old s : TableState) : Type 0 where
   pub empty : list_links t s.at ≡ []
@@ -208,32 +162,3 @@ put_all t all links old s is none = record {
 }
 
 -- ---- the next root
-
--- where nothing waits, the roots are left
-roots_only : (t : ExpansionTable) (s : TableState) → s.at.to ≤ s.at.from → s.waiting.items ≡ [] → links_left t s ≡ map (root_link t.job.selector) s.roots.now
-roots_only t s empty none = ap (λ (fs : List PendingLink). fs ++ map (root_link t.job.selector) s.roots.now) (nothing_waits t s.at s.waiting.items empty none)
-
--- and the first of them comes next
-pub next_root : (t : ExpansionTable) (old new : TableState) (o : Option Next) → IsWithin t old → old.at.to ≤ old.at.from → old.waiting.items ≡ [] → new.at ≡ old.at → new.waiting.items ≡ [] → new.expanded ≡ old.expanded → IsNextRoot old.roots.now o new.roots.now
-    → IsNextLink t old o new
-next_root t old new None within empty none at nothing expanded roots =
-    let after : links_left t new ≡ [] = roots_only t new (subst (λ (l : ListLeft). l.to ≤ l.from) (sym at) empty) nothing ∙ ap (map (root_link t.job.selector)) roots.1 in
-    record {
-      links = roots_only t old empty none ∙ ap (map (root_link t.job.selector)) roots.0 ∙ sym after;
-      next = tt;
-      ends = after;
-      within = record { list = subst (λ (l : ListLeft). l.to ≤ length t.links) (sym at) within.list; waits = subst (All (IsWaiting t)) (sym nothing) (All-nil (IsWaiting t)) };
-      expanded = expanded;
-    }
-next_root t old new (Some (Root c)) within empty none at nothing expanded roots =
-    record {
-      links =
-          roots_only t old empty none ∙ ap (map (root_link t.job.selector)) roots
-          ∙ ap (λ (fs : List PendingLink). root_link t.job.selector c.now ∷ fs) (sym (roots_only t new (subst (λ (l : ListLeft). l.to ≤ l.from) (sym at) empty) nothing));
-      next = tt;
-      ends = tt;
-      within = record { list = subst (λ (l : ListLeft). l.to ≤ length t.links) (sym at) within.list; waits = subst (All (IsWaiting t)) (sym nothing) (All-nil (IsWaiting t)) };
-      expanded = expanded;
-    }
-next_root t old new (Some (Listed link depth)) within empty none at nothing expanded roots = absurd roots
-next_root t old new (Some (Found f)) within empty none at nothing expanded roots = absurd roots

@@ -189,14 +189,6 @@ last_numbered {X = X} xs ys x n added is =
     ∙ slice_get-get_or (xs ++ x ∷ []) (length xs) x (omega (arith, length-append xs (x ∷ [])))
     ∙ ap (λ (y : X). Some y) (get_or-append_seam xs x [] x)
 
--- an element that is there has a number within the list
-pub numbered_within : (t : ExpansionTable) (places : List Place) (n : ℕ) → slice_get t.residuals n ≡ Some places → n < length t.residuals
-numbered_within t places n is = slice_get_within t.residuals n places is
-
--- and is the residual of that number
-pub numbered_is : (t : ExpansionTable) (places : List Place) (n : ℕ) → slice_get t.residuals n ≡ Some places → residual_in t n ≡ places
-numbered_is t places n is = get_or_from_slice_get t.residuals n places [] is
-
 -- ---- one thing more
 
 -- one more residual

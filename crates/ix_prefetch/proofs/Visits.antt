@@ -36,18 +36,6 @@ use Rattle.ix_prefetch.proofs.Listing.{nothing_waits, puts_nothing}
 
 -- ---- whether the links of a list are visited
 
--- always, by a walk that expands a CID at every link to it
-pub enters_always : (store : Blocks) (places : List Place) (cid : List ℕ) (old : Option VisitedSet) → is_none old ≡ true → EntersList store places cid old old true
-enters_always store places cid None e = record { inside = λ depth. refl; expanded = λ depth. refl }
-enters_always store places cid (Some g) e = absurd cc
-
--- never below a CID below which nothing is visited, by one that expands it once
-pub enters_never : (store : Blocks) (places : List Place) (cid : List ℕ) (old : Option VisitedSet) → is_none old ≡ false → is_barren store cid ≡ true → EntersList store places cid old old false
-enters_never store places cid None e barren = absurd cc
-enters_never store places cid (Some g) e barren = record { inside = inside; expanded = λ depth. sym (ap (λ (o : Option Data). expanded_after o (waiting places depth cid) (Some (expanded_of store g))) (inside depth)) } where
-  inside : (depth : ℕ) → data_inside store (Some (expanded_of store g)) (waiting places depth cid) ≡ None
-  inside depth = ap (λ (b : Bool). if (b || has_expanded g (position_of store cid) cid places) then None else sound_value store cid) barren
-
 -- the data that are expanded are those of the CID
 inside_value : (store : Blocks) (had : Option Going) (f : PendingLink) (d : Data) → data_inside store had f ≡ Some d → value_of store f.cid ≡ Some d
 inside_value store None f d e = e
@@ -105,17 +93,6 @@ list_visited t number seq residual once v p old new expanded visit usable live e
   roots = puts.roots;
 }
 
--- and one without is, where nothing is expanded
-pub none_visited : (t : ExpansionTable) (number seq : ℕ) (places : List Place) (v : Visit) (old : TableState) (expanded : Option VisitedSet) → IsVisitAt t number seq v → IsWithin t old
-    → EntersList t.store places v.cid old.expanded expanded false → IsVisited t number seq (waiting places v.depth v.cid) old v (record old { expanded = expanded })
-none_visited t number seq places v old expanded visit within enters = record {
-  visit = visit;
-  expanded = enters.expanded v.depth;
-  links = ap (λ (o : Option Data). links_inside places (v.depth + 1) o ++ links_in t old.at old.waiting.items) (sym (enters.inside v.depth));
-  within = record { list = within.list; waits = within.waits };
-  roots = refl;
-}
-
 -- and one whose block is expanded
 pub block_visited : (t : ExpansionTable) (number seq : ℕ) (places : List Place) (v : Visit) (bytes : Option (List ℕ)) (old new : TableState) (expanded : Option VisitedSet) → IsVisitAt t number seq v → IsWithin t old
     → Goes t.store (waiting places v.depth v.cid) (going_of t.store old.expanded) bytes (going_of t.store expanded) → PutsInside places bytes (v.depth + 1) (record old { expanded = expanded }) new
@@ -132,24 +109,9 @@ block_visited t number seq places v bytes old new expanded visit within goes put
 
 -- ---- what is taken
 
--- at the limit, one more link means `Limit`
-pub table_limit : (t : ExpansionTable) (number given : ℕ) (old mid : TableState) (next : Next) → given ≡ t.job.limit → IsNextLink t old (Some next) mid → GivesNext (left_of_table_walk t number given old false) (Some (Err Limit)) nothing_left
-table_limit t number given old mid next here is = limit_with t.store number t.job.limit given (going_of t.store old.expanded) (links_left t old) (next_pending t next) (links_left t mid) here is.links
-
--- without a link the walk ends
-pub table_end : (t : ExpansionTable) (number given : ℕ) (old mid : TableState) → IsNextLink t old None mid → GivesNext (left_of_table_walk t number given old false) None nothing_left
-table_end t number given old mid is = end_with t.store number t.job.limit given (going_of t.store old.expanded) (links_left t old) (is.links ∙ is.ends)
-
 -- what comes next is no deeper than there are visits, and nor are the others
 shallow_next : (t : ExpansionTable) (given : ℕ) (old mid : TableState) (next : Next) → IsWalking t given old → IsNextLink t old (Some next) mid → NoDeeper given (next_pending t next ∷ links_left t mid)
 shallow_next t given old mid next is taken = subst (NoDeeper given) taken.links is.shallow
-
--- so it may be crossed
-pub low_next : (t : ExpansionTable) (given : ℕ) (old mid : TableState) (next : Next) → (given ≡ t.job.limit → ⊥) → IsWalking t given old → IsNextLink t old (Some next) mid → (next_pending t next).depth < t.job.limit
-low_next t given old mid next not is taken =
-    let h : (next_pending t next).depth ≤ given = (shallow_next t given old mid next is taken).0 in
-    let l : given < t.job.limit = let k = is.limit in omega arith in
-    omega arith
 
 -- within the limit the walk returns the link's visit
 pub table_visit : (t : ExpansionTable) (number given : ℕ) (old mid new : TableState) (next : Next) (v : Visit) → (given ≡ t.job.limit → ⊥) → IsWalking t given old → IsNextLink t old (Some next) mid
@@ -207,17 +169,7 @@ starts t number b s is once none at waits same =
 
 -- ---- the links of a block
 
--- without a block there is none
-pub none_put : (places : List Place) (depth : ℕ) (s : TableState) → PutsInside places None depth s s
-none_put places depth s value is t within =
-    subst (λ (fs : List PendingLink). PutsBefore t fs s s) (sym (ap (λ (o : Option Data). links_inside places depth o) is)) (puts_nothing t s within)
-
--- those of a block
-pub some_put : (places : List Place) (b : List ℕ) (depth : ℕ) (links : List PendingLink) (old new : TableState) → AreLinksIn b places depth links → PutsLinks links old new → PutsInside places (Some b) depth old new
-some_put places b depth links old new are puts value v t within =
-    subst (λ (fs : List PendingLink). PutsBefore t fs old new) (are v.0 v.2 ∙ sym (ap (λ (o : Option Data). links_inside places depth o) v.1)) (puts t within)
-
 -- the block that is expanded spells data
-pub expanded_block : (store : Blocks) (f : PendingLink) (had has : Option Going) (o : Option (List ℕ)) → Goes store f had o has → IfSome o (λ b. IsBlock b)
-expanded_block store f had has None goes = tt
-expanded_block store f had has (Some b) goes = (goes.inside.0, goes.inside.2)
+pub expanded_block : (had has : Option Going) (store : Blocks) (f : PendingLink) (o : Option (List ℕ)) → Goes store f had o has → IfSome o (λ b. IsBlock b)
+expanded_block had has store f None goes = tt
+expanded_block had has store f (Some b) goes = (goes.inside.0, goes.inside.2)

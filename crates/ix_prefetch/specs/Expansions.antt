@@ -64,10 +64,6 @@ abbrev pub IsLinkAt : ExpansionTable → ℕ → LinkAt → Type 0
 IsLinkAt t number (Stored residual place pair) = (residual < length t.residuals) × IsHashedAt t.store place × (slice_get t.links number ≡ Some (waiting (residual_in t residual) 0 (cid_at t.store place)))
 IsLinkAt t number (Written residual cid) = (residual < length t.residuals) × (slice_get t.links number ≡ Some (waiting (residual_in t residual) 0 cid))
 
--- the link with this number, without its depth
-abbrev pub link_at : ExpansionTable → ℕ → PendingLink
-link_at t number = slice_index_or t.links number (waiting [] 0 [])
-
 -- a table is of the job and the store of another
 pub record IsTableOf (t other : ExpansionTable) : Type 0 where
   pub store : other.store ≡ t.store

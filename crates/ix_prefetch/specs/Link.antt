@@ -15,9 +15,13 @@ use Rattle.ix_prefetch.specs.declared.link.Link.TheVariants.{Stored, Written}
 abbrev pub cid_at : Blocks → ℕ → List ℕ
 cid_at store place = (slice_index_or store place ([], [])).0
 
+-- a CID names a block by its hash under this function, and its codec is known
+abbrev pub IsHashedBy : HashFunction → List ℕ → Type 0
+IsHashedBy function c = Block function ≡ needed_of (parts_of c)
+
 -- a CID names a block by its hash, and its codec is known
 abbrev pub IsHashed : List ℕ → Type 0
-IsHashed c = (function : HashFunction) × (Block function ≡ needed_of (parts_of c))
+IsHashed c = (function : HashFunction) × IsHashedBy function c
 
 -- there is a block at this place, under a CID that names it by its hash
 abbrev pub IsHashedAt : Blocks → ℕ → Type 0

@@ -227,14 +227,14 @@ impl<'a> Expansions<'a> {
     fn push_link(
         &mut self,
         alloc: Global,
-        residual: &Residual<'a>,
+        through: &Residual<'a>,
         cid: &CidRef<'a>,
     ) -> Result<(), AllocError>
-        requires { IsMet self.old.job.selector residual.now }
-        ensures added { OnOk result (Adds self.old self.new (waiting residual.now 0 cid.now ∷ [])) }
+        requires { IsMet self.old.job.selector through.now }
+        ensures added { OnOk result (Adds self.old self.new (waiting through.now 0 cid.now ∷ [])) }
         ensures err { OnErr result (Adds self.old self.new []) }
     {
-        let number = self.number_of(alloc, residual)?;
+        let number = self.number_of(alloc, through)?;
         match stored_at(alloc, self.store, cid)? {
             Some(at) => self.push_stored(number, at.place, at.guess()),
             None => self.push_written(number, same_cid(cid)),
@@ -245,7 +245,7 @@ impl<'a> Expansions<'a> {
     fn push_links(&mut self, alloc: Global, links: &[PendingLink<'a, 'a>]) -> Result<(), AllocError>
         requires { All (λ f. IsMet self.old.job.selector f.residual) links.now }
         ensures added { OnOk result (Adds self.old self.new (map (at_depth 0) links.now)) }
-        ensures err { OnErr result (AddsSome self.old self.new) }
+        ensures err { OnErr result ((links : _) × Adds self.old self.new links) }
     {
         for link in links.iter() {
             self.push_link(alloc, &link.residual, &link.cid)?;
@@ -323,12 +323,12 @@ impl<'a> Expansions<'a> {
     fn push_block(
         &mut self,
         alloc: Global,
-        residual: &Residual<'a>,
+        entering: &Residual<'a>,
         block: Block<'a>,
     ) -> Result<bool, AllocError>
-        requires met { IsMet self.old.job.selector residual.now }
+        requires met { IsMet self.old.job.selector entering.now }
         requires block { IsBlockAt self.old.store block.place block.cid block.bytes }
-        ensures block { IfOk result (AddsBlock self.old self.new block.entry.cid residual.now) }
+        ensures block { IfOk result (AddsBlock self.old self.new block.entry.cid entering.now) }
         ensures err { OnErr result (AddsSome self.old self.new) }
     {
         let Block {
@@ -340,7 +340,7 @@ impl<'a> Expansions<'a> {
         if once && !has_tag(bytes.bytes()) {
             return Ok(true);
         }
-        let links = expand(alloc, residual.try_clone(alloc)?, bytes, 0)?;
+        let links = expand(alloc, entering.try_clone(alloc)?, bytes, 0)?;
         if once && !links.is_empty() && !self.store.hash_matches(place) {
             return Ok(true);
         }
@@ -353,12 +353,12 @@ impl<'a> Expansions<'a> {
         &mut self,
         alloc: Global,
         place: u32,
-        residual: &Residual<'a>,
+        entering: &Residual<'a>,
         read: Read<'a>,
     ) -> Result<bool, AllocError>
-        requires met { IsMet self.old.job.selector residual.now }
+        requires met { IsMet self.old.job.selector entering.now }
         requires read { IsReadAt self.old.store place read }
-        ensures block { IfOk result (AddsBlock self.old self.new read.entry.cid residual.now) }
+        ensures block { IfOk result (AddsBlock self.old self.new read.entry.cid entering.now) }
         ensures err { OnErr result (AddsSome self.old self.new) }
     {
         let Read {
@@ -374,7 +374,7 @@ impl<'a> Expansions<'a> {
             cid,
             bytes,
         };
-        self.push_block(alloc, residual, block)
+        self.push_block(alloc, entering, block)
     }
 
     // Adds the expansion of what was read at a place.
@@ -382,17 +382,17 @@ impl<'a> Expansions<'a> {
         &mut self,
         alloc: Global,
         place: u32,
-        residual: &Residual<'a>,
+        by: &Residual<'a>,
         read: Read<'a>,
     ) -> Result<(), AllocError>
-        requires met { IsMet self.old.job.selector residual.now }
+        requires met { IsMet self.old.job.selector by.now }
         requires read { IsReadAt self.old.store place read }
-        ensures { AddsSome self.old self.new }
+        ensures { (links : _) × Adds self.old self.new links }
     {
         let malformed = read.malformed;
-        let number = self.number_of(alloc, residual)?;
+        let number = self.number_of(alloc, by)?;
         let from = self.links.len();
-        let barren = self.push_bytes(alloc, place, residual, read)?;
+        let barren = self.push_bytes(alloc, place, by, read)?;
         let Some((from, to)) = bounds(from, self.links.len()) else {
             return Err(AllocError);
         };
@@ -413,13 +413,13 @@ impl<'a> Expansions<'a> {
         &mut self,
         alloc: Global,
         place: u32,
-        residual: &Residual<'a>,
+        by: &Residual<'a>,
     ) -> Result<(), AllocError>
-        requires { IsMet self.old.job.selector residual.now }
+        requires { IsMet self.old.job.selector by.now }
         ensures { AddsSome self.old self.new }
     {
         match read_at(alloc, self.store, place as usize)? {
-            Some(read) => self.push_read(alloc, place, residual, read),
+            Some(read) => self.push_read(alloc, place, by, read),
             None => Ok(()),
         }
     }

@@ -179,27 +179,28 @@ impl<'a> Visiting<'a> {
         place: u32,
         guess: u32,
         depth: u32,
-        state: &mut TableState<'a>,
+        left: &mut TableState<'a>,
     ) -> Result<Visit, AllocError>
         requires depth { depth + 1 < 2 ^ 32 }
         requires residual { residual < length self.now.table.now.residuals }
         requires place { IsHashedAt self.now.table.now.store place }
-        requires within { IsWithin self.now.table.now state.old }
+        requires within { IsWithin self.now.table.now left.old }
         ensures { IfOk result (λ v. IsVisited self.now.table.now self.now.number self.now.seq
-            (waiting (residual_in self.now.table.now residual) depth (cid_at self.now.table.now.store place)) state.old v state.new) }
+            (waiting (residual_in self.now.table.now residual) depth (cid_at self.now.table.now.store place))
+            left.old v left.new) }
     {
         let table = self.table;
         let store = table.store();
         let cid = store.cid_at(place as usize)?;
         let block = store.find_near(Some(place as usize), &cid);
-        let once = state.expanded.is_some();
+        let once = left.expanded.is_some();
         if let Some(pair) = usable_pair(table, guess, block, residual, once) {
             let visit = self.visit(cid, block, depth, pair.malformed);
-            return self.visit_pair(visit, pair, state);
+            return self.visit_pair(visit, pair, left);
         }
         let (bytes, malformed) = read_stored(store, &cid, block);
         let visit = self.visit(cid, block, depth, malformed);
-        self.visit_bytes(visit, table.residual(residual), bytes, state)
+        self.visit_bytes(visit, table.residual(residual), bytes, left)
     }
 
     // Visits a link to any CID.
@@ -208,37 +209,38 @@ impl<'a> Visiting<'a> {
         residual: u16,
         at: CidRef<'a>,
         depth: u32,
-        state: &mut TableState<'a>,
+        left: &mut TableState<'a>,
     ) -> Result<Visit, AllocError>
         requires depth { depth + 1 < 2 ^ 32 }
         requires residual { residual < length self.now.table.now.residuals }
-        requires within { IsWithin self.now.table.now state.old }
+        requires within { IsWithin self.now.table.now left.old }
         ensures { IfOk result (λ v. IsVisited self.now.table.now self.now.number self.now.seq
-            (waiting (residual_in self.now.table.now residual) depth at.entry) state.old v state.new) }
+            (waiting (residual_in self.now.table.now residual) depth at.entry) left.old v left.new) }
     {
         let table = self.table;
         let store = table.store();
         let cid = at.to_cid(self.alloc)?;
         let block = store.find(&cid);
-        let once = state.expanded.is_some();
+        let once = left.expanded.is_some();
         if let Some(pair) = usable_pair(table, 0, block, residual, once) {
             let visit = self.visit(cid, block, depth, pair.malformed);
-            return self.visit_pair(visit, pair, state);
+            return self.visit_pair(visit, pair, left);
         }
         let (bytes, malformed) = read_block(store, &at, block);
         let visit = self.visit(cid, block, depth, malformed);
-        self.visit_bytes(visit, table.residual(residual), bytes, state)
+        self.visit_bytes(visit, table.residual(residual), bytes, left)
     }
 
     // Visits a link that was found in a block of which the table has no expansion.
     fn visit_found(
         &self,
         link: PendingLink<'a, 'a>,
-        state: &mut TableState<'a>,
+        rest: &mut TableState<'a>,
     ) -> Result<Visit, AllocError>
         requires depth { link.depth + 1 < 2 ^ 32 }
-        requires within { IsWithin self.now.table.now state.old }
-        ensures { IfOk result (λ v. IsVisited self.now.table.now self.now.number self.now.seq link.entry state.old v state.new) }
+        requires within { IsWithin self.now.table.now rest.old }
+        ensures { IfOk result (λ v. IsVisited self.now.table.now self.now.number self.now.seq
+            link.entry rest.old v rest.new) }
     {
         let PendingLink {
             residual,
@@ -250,20 +252,20 @@ impl<'a> Visiting<'a> {
         let block = store.find(&cid);
         let (bytes, malformed) = read_block(store, &at, block);
         let visit = self.visit(cid, block, depth, malformed);
-        self.visit_bytes(visit, &residual, bytes, state)
+        self.visit_bytes(visit, &residual, bytes, rest)
     }
 
     /// Returns the visit of a link, and puts the links below it before those that wait.
     pub(crate) fn visit_next(
         &self,
         next: Next<'a>,
-        state: &mut TableState<'a>,
+        rest: &mut TableState<'a>,
     ) -> Result<Visit, AllocError>
         requires depth { (next_pending self.now.table.now next).depth + 1 < 2 ^ 32 }
         requires next { IsNext self.now.table.now next }
-        requires within { IsWithin self.now.table.now state.old }
+        requires within { IsWithin self.now.table.now rest.old }
         ensures { IfOk result (λ v. IsVisited self.now.table.now self.now.number self.now.seq
-            (next_pending self.now.table.now next.entry) state.old v state.new) }
+            (next_pending self.now.table.now next.entry) rest.old v rest.new) }
     {
         match next {
             Next::Listed { link, depth } => match link {
@@ -271,16 +273,16 @@ impl<'a> Visiting<'a> {
                     residual,
                     place,
                     pair,
-                } => self.visit_stored(residual, place, pair, depth, state),
+                } => self.visit_stored(residual, place, pair, depth, rest),
                 LinkAt::Written { residual, cid } => {
-                    self.visit_written(residual, cid, depth, state)
+                    self.visit_written(residual, cid, depth, rest)
                 }
             },
             Next::Root(root) => {
                 let residual = self.table.root_number();
-                self.visit_written(residual, root.by_ref(), 0, state)
+                self.visit_written(residual, root.by_ref(), 0, rest)
             }
-            Next::Found(link) => self.visit_found(link, state),
+            Next::Found(link) => self.visit_found(link, rest),
         }
     }
 }

@@ -26,7 +26,7 @@ pub push_links-requires : goal.push_links-requires
 push_links-requires c =
     let t = c.args.self.now in
     let b = c.args.block in
-    let places = c.args.residual.now in
+    let places = c.args.entering.now in
     let links = c.in_ok-links.links.items in
     let are = subst (λ (r : List Place). AreLinksIn b.bytes r 0 links) c.in_ok-try_clone.ensures.same c.in_ok-links.ensures in
     let selector = subst (λ (x : ExpansionTable). IsSelector x.job.selector) c.self.view_is c.self.invariant.selector in
@@ -37,7 +37,7 @@ pub returns-clause-block : goal.returns-clause-block
 returns-clause-block c =
     let t = c.args.self.now in
     let b = c.args.block in
-    let places = c.args.residual.now in
+    let places = c.args.entering.now in
     let links = c.in_ok-links.links.items in
     let are = subst (λ (r : List Place). AreLinksIn b.bytes r 0 links) c.in_ok-try_clone.ensures.same c.in_ok-links.ensures in
     adds_same t c.push_links.new.self _ _ (ap (map (at_depth 0)) c.as_slice.ensures.value ∙ block_links t.store b.cid b.bytes places links c.requires.block.value are) c.in_ok-push_links.ensures.added

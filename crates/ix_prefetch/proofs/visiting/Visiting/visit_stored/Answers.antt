@@ -34,7 +34,7 @@ returns-in-Some c =
     let t = c.args.self.now.table.now in
     let at = subst (λ (s : Blocks). slice_get (map (λ e. e.0) s) c.args.place ≡ Some c.in_ok-cid.cid) c.store-store.ensures c.in_ok-cid.ensures in
     let cid = cid_is t.store c.args.place c.in_ok-cid.cid c.requires.place.0 at in
-    subst (λ (f : PendingLink). IfOk c.visit_pair.result (λ v. IsVisited t c.args.self.now.number c.args.self.now.seq f c.args.state.now v c.visit_pair.new.state))
+    subst (λ (f : PendingLink). IfOk c.visit_pair.result (λ v. IsVisited t c.args.self.now.number c.args.self.now.seq f c.args.left.now v c.visit_pair.new.state))
     (λ i. waiting (residual_in t (c.in-Some.ensures.number i)) (ap (λ (v : Visit). v.depth) c.visit-visit.ensures i) ((ap (λ (v : Visit). v.cid) c.visit-visit.ensures ∙ cid) i)) c.visit_pair.ensures
 
 pub returns : goal.returns
@@ -42,5 +42,5 @@ returns c =
     let t = c.args.self.now.table.now in
     let at = subst (λ (s : Blocks). slice_get (map (λ e. e.0) s) c.args.place ≡ Some c.in_ok-cid.cid) c.store-store.ensures c.in_ok-cid.ensures in
     let cid = cid_is t.store c.args.place c.in_ok-cid.cid c.requires.place.0 at in
-    subst (λ (f : PendingLink). IfOk c.visit_bytes.result (λ v. IsVisited t c.args.self.now.number c.args.self.now.seq f c.args.state.now v c.visit_bytes.new.state))
+    subst (λ (f : PendingLink). IfOk c.visit_bytes.result (λ v. IsVisited t c.args.self.now.number c.args.self.now.seq f c.args.left.now v c.visit_bytes.new.state))
     (λ i. waiting (c.residual.ensures.value i) (ap (λ (v : Visit). v.depth) c.visit-visit-2.ensures i) ((ap (λ (v : Visit). v.cid) c.visit-visit-2.ensures ∙ cid) i)) c.visit_bytes.ensures
