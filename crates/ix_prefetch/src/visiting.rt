@@ -80,7 +80,14 @@ fn enters_list<'a>(
 impl<'a> Visiting<'a> {
     // The visit of a CID.
     fn visit(&self, cid: Cid, block: Option<usize>, depth: u32, malformed: bool) -> Visit
-        ensures { result ≡ record { job = self.now.number; seq = self.now.seq; depth = depth; cid = cid; block = block; malformed = malformed } }
+        ensures { result ≡ record {
+          job = self.now.number;
+          seq = self.now.seq;
+          depth = depth;
+          cid = cid;
+          block = block;
+          malformed = malformed;
+        } }
     {
         Visit {
             job: self.number,
