@@ -207,7 +207,8 @@ impl<'a> Expansions<'a> {
     // Appends a link to any CID.
     fn push_written(&mut self, residual: u16, cid: CidRef<'a>) -> Result<(), AllocError>
         requires { residual < length self.old.residuals }
-        ensures added { OnOk result (Adds self.old self.new (waiting (residual_in self.old residual) 0 cid.entry ∷ [])) }
+        ensures added { OnOk result (Adds self.old self.new
+            (waiting (residual_in self.old residual) 0 cid.entry ∷ [])) }
         ensures err { OnErr result (self.new ≡ self.old) }
     {
         let number = self.cids.len();
