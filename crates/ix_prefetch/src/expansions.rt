@@ -193,7 +193,8 @@ impl<'a> Expansions<'a> {
     fn push_stored(&mut self, residual: u16, place: u32, pair: u32) -> Result<(), AllocError>
         requires residual { residual < length self.old.residuals }
         requires place { IsHashedAt self.old.store place }
-        ensures added { OnOk result (Adds self.old self.new (waiting (residual_in self.old residual) 0 (cid_at self.old.store place) ∷ [])) }
+        ensures added { OnOk result (Adds self.old self.new
+            (waiting (residual_in self.old residual) 0 (cid_at self.old.store place) ∷ [])) }
         ensures err { OnErr result (self.new ≡ self.old) }
     {
         self.links.push(Link::Stored {
