@@ -1,0 +1,6 @@
+mod Resting
+mod Tables
+mod Adding
+mod Listing
+mod Visits
+mod Readings
