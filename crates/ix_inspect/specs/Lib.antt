@@ -1,3 +1,4 @@
 pub use Rattle.ix_car.specs.Sections
 pub mod Kinds
 pub mod Counted
+pub mod Names

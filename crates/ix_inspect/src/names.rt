@@ -1,7 +1,12 @@
 //! The names of the multicodec table.
 
+ghost use Rattle.std.specs.Prelude.{◌≡◌, option_map};
+ghost use Rattle.ix_inspect.specs.Names.{named_codec, named_hash};
+
 /// Returns the name of a common codec.
-pub fn codec_name(code: u64) -> Option<&'static str> {
+pub fn codec_name(code: u64) -> Option<&'static str>
+    ensures { option_map (λ s. s.now) result ≡ named_codec code }
+{
     match code {
         0x51 => Some("cbor"),
         0x55 => Some("raw"),
@@ -19,7 +24,9 @@ pub fn codec_name(code: u64) -> Option<&'static str> {
 }
 
 /// Returns the name of a common hash function.
-pub fn hash_name(code: u64) -> Option<&'static str> {
+pub fn hash_name(code: u64) -> Option<&'static str>
+    ensures { option_map (λ s. s.now) result ≡ named_hash code }
+{
     match code {
         0x00 => Some("identity"),
         0x11 => Some("sha1"),

@@ -2,15 +2,11 @@
 use Rattle.std.specs.Prelude.{◌≡◌, ℕ, zero, suc, List, [], ◌∷◌, ◌++◌, map, if◌then◌else◌, Option, Some, None, option_and_then, Result, Ok, Err}
 use Rattle.std.specs.Global.{Vec}
 use Rattle.std.specs.Option.{ok_or}
-use Rattle.ix_cid.specs.Cid.{parts_of}
-use Rattle.ix_cid.specs.declared.hash_function.HashFunction.{HashFunction}
 use Rattle.ix_cbor.specs.Data.{Data, bytes, link}
 use Rattle.ix_cbor.specs.Reading.{data_at}
 use Rattle.ix_store.specs.Store.{Blocks, block_of, bytes_of, is_dag_cbor}
 use Rattle.ix_verdict.specs.declared.verdict.Verdict.{Verdict}
 use Rattle.ix_verdict.specs.Verdict.{verdict_with, passes}
-use Rattle.ix_verdict.specs.Needed.{needed_of}
-use Rattle.ix_verdict.specs.declared.needed.Needed.TheVariants.{Block as NeededBlock}
 use Rattle.ix_path.specs.declared.step.PathStep.{PathStep}
 use Rattle.ix_path.specs.Children.{child_of}
 use Rattle.ix_path.specs.declared.obstacle.Obstacle.{Obstacle}
@@ -77,10 +73,6 @@ abbrev pub resolution : Blocks → ℕ → List (List ℕ) → List ℕ → Rout
 resolution store links segments root = entered store root and_then crossed store links and_then followed store links segments
 
 -- ---- in the program
-
--- the verdict on a CID needs a block
-abbrev pub NeedsBlock : List ℕ → Type 0
-NeedsBlock c = (function : HashFunction) × (NeededBlock function ≡ needed_of (parts_of c))
 
 -- the blocks on a route are appended to others, and this is its end
 pub record Goes (old new : List (List ℕ)) (found : Result Data Obstacle) (route : Route) : Type 0 where

@@ -5,9 +5,10 @@ ghost use Rattle.std.specs.Option.{ok_or};
 ghost use Rattle.ix_cid.specs.Cid.{parts_of, codec_of};
 ghost use Rattle.ix_cid.specs.Parts.{parts_view};
 ghost use Rattle.ix_store.specs.Store.{bytes_of};
+ghost use Rattle.ix_verdict.specs.Needed.{NeedsBlock};
 ghost use Rattle.ix_verdict.specs.Verdict.{passes};
 ghost use Rattle.ix_path.specs.declared.obstacle.Obstacle.TheVariants as obstacles;
-ghost use Rattle.ix_path.specs.Resolution.{◌and_then◌, verdict_of, sound_node, entered, crossed, stepped, followed, resolution, NeedsBlock, Goes, GoesBy, IsRoute, segments_in};
+ghost use Rattle.ix_path.specs.Resolution.{◌and_then◌, verdict_of, sound_node, entered, crossed, stepped, followed, resolution, Goes, GoesBy, IsRoute, segments_in};
 
 use crate::child::child;
 use crate::node::PathNode;

@@ -136,7 +136,7 @@ link_added old mid new places n c d one numbered same two =
 -- nothing is visited below a damaged block
 pub damaged : (store : Blocks) (c b : List ℕ) (place : ℕ) (r : Bool) → IsBlockAt store place c b → r ≡ get_or (map hash_matches store) place false → r ≡ false → is_barren store c ≡ true
 damaged store c b place r block asked fails =
-    damaged_barren store c (sym (sound_valued store c b r block.value (sound_stored store c block.hashed.0 block.hashed.1 place r block.there asked)) ∙ fails)
+    damaged_barren store c (sym (sound_valued store c b r block.value (sound_stored store c block.needed.0 block.needed.1 place r block.there asked)) ∙ fails)
 
 -- ---- a pair that was read
 

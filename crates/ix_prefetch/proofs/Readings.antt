@@ -13,18 +13,19 @@ use Rattle.ix_store.proofs.Blocks.{place_within, faulty_not}
 use Rattle.ix_walk.specs.Visits.{is_malformed}
 use Rattle.ix_walk.proofs.Readings.{bytes_absent, bytes_at, known_dag_cbor}
 use Rattle.ix_prefetch.specs.declared.reading.StoredAt.{StoredAt}
-use Rattle.ix_prefetch.specs.Link.{IsHashed, IsStoredAt}
+use Rattle.ix_verdict.specs.Needed.{NeedsBlock}
+use Rattle.ix_prefetch.specs.Link.{IsStoredAt}
 use Rattle.ix_prefetch.proofs.Tables.{named}
 
 -- without a block there are no data
-pub absent_value : (store : Blocks) (c : List ℕ) → is_dag_cbor c ≡ true → IsHashed c → None ≡ position_of store c → (value_of store c ≡ None) × (false ≡ is_malformed store c)
-absent_value store c dag hashed absent =
-    let k : bytes_of store c ≡ None = known_dag_cbor store c dag ∙ sym (bytes_absent store c hashed.0 hashed.1 absent) in
+pub absent_value : (store : Blocks) (c : List ℕ) → is_dag_cbor c ≡ true → NeedsBlock c → None ≡ position_of store c → (value_of store c ≡ None) × (false ≡ is_malformed store c)
+absent_value store c dag needed absent =
+    let k : bytes_of store c ≡ None = known_dag_cbor store c dag ∙ sym (bytes_absent store c needed.0 needed.1 absent) in
     rw (dag, k) (refl, refl)
 
 -- a block is what its CID names
-pub stored_bytes : (store : Blocks) (c : List ℕ) (place : ℕ) (b : List ℕ) → is_dag_cbor c ≡ true → IsHashed c → Some place ≡ position_of store c → slice_get (map (λ e. e.1) store) place ≡ Some b → bytes_of store c ≡ Some b
-stored_bytes store c place b dag hashed there at = known_dag_cbor store c dag ∙ sym (bytes_at store c hashed.0 hashed.1 place b there at)
+pub stored_bytes : (store : Blocks) (c : List ℕ) (place : ℕ) (b : List ℕ) → is_dag_cbor c ≡ true → NeedsBlock c → Some place ≡ position_of store c → slice_get (map (λ e. e.1) store) place ≡ Some b → bytes_of store c ≡ Some b
+stored_bytes store c place b dag needed there at = known_dag_cbor store c dag ∙ sym (bytes_at store c needed.0 needed.1 place b there at)
 
 -- one that isn't valid has no data
 pub faulty_value : (store : Blocks) (c b : List ℕ) → is_dag_cbor c ≡ true → bytes_of store c ≡ Some b → is_none (data_at b) ≡ true → (value_of store c ≡ None) × (true ≡ is_malformed store c)

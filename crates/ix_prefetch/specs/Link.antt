@@ -1,9 +1,6 @@
 -- What a link of a table stands for.
 use Rattle.std.specs.Prelude.{◌≡◌, ℕ, ◌<◌, List, [], length, slice_index_or}
-use Rattle.ix_cid.specs.Cid.{parts_of}
-use Rattle.ix_cid.specs.declared.hash_function.HashFunction.{HashFunction}
-use Rattle.ix_verdict.specs.declared.needed.Needed.TheVariants.{Block}
-use Rattle.ix_verdict.specs.Needed.{needed_of}
+use Rattle.ix_verdict.specs.Needed.{NeedsBlock}
 use Rattle.ix_selector.specs.Residual.{Place}
 use Rattle.ix_store.specs.Store.{Blocks}
 use Rattle.ix_walk.specs.declared.subtree.PendingLink.{PendingLink}
@@ -15,17 +12,9 @@ use Rattle.ix_prefetch.specs.declared.link.Link.TheVariants.{Stored, Written}
 abbrev pub cid_at : Blocks → ℕ → List ℕ
 cid_at store place = (slice_index_or store place ([], [])).0
 
--- a CID names a block by its hash under this function, and its codec is known
-abbrev pub IsHashedBy : HashFunction → List ℕ → Type 0
-IsHashedBy function c = Block function ≡ needed_of (parts_of c)
-
--- a CID names a block by its hash, and its codec is known
-abbrev pub IsHashed : List ℕ → Type 0
-IsHashed c = (function : HashFunction) × IsHashedBy function c
-
--- there is a block at this place, under a CID that names it by its hash
+-- there is a block at this place, and the verdict on its CID needs one
 abbrev pub IsHashedAt : Blocks → ℕ → Type 0
-IsHashedAt store place = (place < length store) × IsHashed (cid_at store place)
+IsHashedAt store place = (place < length store) × NeedsBlock (cid_at store place)
 
 -- the link that a link of a table stands for, by the residuals and the other CIDs of the table
 abbrev pub pending_of : Blocks → List (List Place) → List (List ℕ) → Link → PendingLink
@@ -37,7 +26,7 @@ abbrev pub IsLink : Blocks → List (List Place) → List (List ℕ) → Link �
 IsLink store residuals cids (Stored residual place pair) = (residual < length residuals) × IsHashedAt store place
 IsLink store residuals cids (Written residual cid) = (residual < length residuals) × (cid < length cids)
 
--- the block of a CID, which names it by its hash, is at this place
+-- the block of a CID, the verdict on which needs one, is at this place
 pub record IsStoredAt (store : Blocks) (c : List ℕ) (place : ℕ) : Type 0 where
   pub there : IsHashedAt store place
   pub cid : cid_at store place ≡ c

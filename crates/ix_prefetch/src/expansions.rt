@@ -11,12 +11,12 @@ ghost use Rattle.ix_prefetch.specs.Growing.{Adds, AddsSome, AddsBlock, at_depth}
 
 use crate::link::{Link, LinkAt, Pair};
 use crate::pair_index::{NO_PAIR, PairIndex};
-use crate::reading::{Block, Read, has_tag, read_at, stored_at};
+use crate::reading::{Block, Read, read_at, stored_at};
 use ix_cid::CidRef;
 use ix_lists::expand;
 use ix_selector::{Residual, law};
 use ix_store::Store;
-use ix_walk::{Job, PendingLink};
+use ix_walk::{Job, PendingLink, has_tag};
 use std::alloc::{AllocError, Global};
 use std::collections::BTreeMap;
 use std::marker::Model;

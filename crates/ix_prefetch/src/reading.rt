@@ -1,11 +1,11 @@
 //! The blocks of CIDs that name them by their hash.
 
-ghost use Rattle.std.specs.Prelude.{◌≡◌, ◌<◌, IfOk, IfSome, IfNone, Some, false};
+ghost use Rattle.std.specs.Prelude.{◌≡◌, IfOk, IfSome, Some};
 ghost use Rattle.ix_store.specs.Store.{bytes_of};
 ghost use Rattle.ix_walk.specs.Arriving.{IsPositionOf, IsReading};
 ghost use Rattle.ix_walk.specs.Descent.{IsItem};
-ghost use Rattle.ix_walk.specs.Walking.{has_tag, IsBehindFirst};
-ghost use Rattle.ix_prefetch.specs.Link.{IsHashed, IsStoredAt};
+ghost use Rattle.ix_verdict.specs.Needed.{NeedsBlock};
+ghost use Rattle.ix_prefetch.specs.Link.{IsStoredAt};
 ghost use Rattle.ix_prefetch.specs.Reading.{IsReadAt};
 
 use crate::pair_index::NO_PAIR;
@@ -13,7 +13,6 @@ use ix_cid::code::DAG_CBOR;
 use ix_cid::{Cid, CidRef};
 use ix_store::{Cursor, Store};
 use ix_verdict::{Needed, bytes_needed};
-use memchr::memchr;
 use std::alloc::{AllocError, Global};
 
 /// The place of a block in the store, for a CID that names it by its hash, and whether it should be
@@ -89,7 +88,7 @@ pub(crate) fn read_stored<'a>(
     cid: &Cid,
     block: Option<usize>,
 ) -> (Option<Cursor<'a>>, bool)
-    requires hashed { IsHashed cid.now }
+    requires needed { NeedsBlock cid.now }
     requires block { IsPositionOf store.now cid.now block }
     ensures bytes { IfSome result.0 (λ b. bytes_of store.now cid.now ≡ Some b) }
     ensures reading { IsReading store.now cid.now result.0 result.1 }
@@ -135,28 +134,4 @@ pub(crate) fn read_at<'a>(
         bytes,
         malformed,
     }))
-}
-
-/// Whether the head of a link's tag is in the bytes of a block: without it no link is.
-pub(crate) fn has_tag(block: &[u8]) -> bool
-    ensures { result ≡ has_tag block.now }
-{
-    let mut rest = block;
-    while let Some(behind) = behind_first(rest) {
-        if matches!(behind.first(), Some(0x2a)) {
-            return true;
-        }
-        rest = behind;
-    }
-    false
-}
-
-// Returns the bytes after the first 0xd8, with which that head begins.
-fn behind_first(bytes: &[u8]) -> Option<&[u8]>
-    ensures found { IfSome result (λ behind. IsBehindFirst bytes.now behind.now) }
-    ensures none { IfNone result (has_tag bytes.now ≡ false) }
-{
-    let place = memchr(0xd8, bytes)?;
-    let (_, behind) = bytes.split_at(place + 1);
-    Some(behind)
 }

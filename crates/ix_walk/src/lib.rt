@@ -17,8 +17,8 @@
 //! ```
 //!
 //! The steps of a walk are public too, for traversals that keep something else between visits:
-//! `read_block` and `bytes_to_expand` say what is expanded at a visit, and `enter_block` and
-//! `next_found` go over the links of a block.
+//! `read_block`, `has_tag` and `bytes_to_expand` say what is expanded at a visit, and `enter_block`
+//! and `next_found` go over the links of a block.
 #![tactic(auto)]
 
 mod descent;
@@ -38,5 +38,5 @@ pub use job::{GREATEST_LIMIT, Job, LONGEST_NAME, MOST_ROOTS, is_name};
 pub use subtree::{Frontier, PendingLink};
 pub use visit::Visit;
 pub use visited_set::VisitedSet;
-pub use visiting::{bytes_to_expand, enter_block, read_block};
+pub use visiting::{bytes_to_expand, enter_block, has_tag, read_block};
 pub use walk::Walk;

@@ -87,8 +87,9 @@ fn is_sound(store: &Store, visit: &Visit) -> bool
     }
 }
 
-// Whether the head of a link's tag is in the bytes of a block: without it no link is.
-fn has_tag(block: &[u8]) -> bool
+/// Whether the head of a link's tag, 42 (DAG-CBOR), is in the bytes of a block. Without it no link is
+/// in the block.
+pub fn has_tag(block: &[u8]) -> bool
     ensures { result ≡ has_tag block.now }
 {
     let mut rest = block;

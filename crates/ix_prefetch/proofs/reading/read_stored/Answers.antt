@@ -7,7 +7,7 @@ use Rattle.ix_prefetch.proofs.reading.read_stored.Goals as goal
 
 pub returns-in_default-clause-reading : goal.returns-in_default-clause-reading
 returns-in_default-clause-reading c =
-    absent_value c.args.store.now c.args.cid.now (dag_cbor_is c.args.cid.now c.parts.result.codec (ap (λ (p : Parts). p.codec) c.parts.ensures) c.if-parts-ne-DAG_CBOR.false) c.requires.hashed (sym c.in_default.is ∙ c.requires.block)
+    absent_value c.args.store.now c.args.cid.now (dag_cbor_is c.args.cid.now c.parts.result.codec (ap (λ (p : Parts). p.codec) c.parts.ensures) c.if-parts-ne-DAG_CBOR.false) c.requires.needed (sym c.in_default.is ∙ c.requires.block)
 
 pub cursor-bytes-requires : goal.cursor-bytes-requires
 cursor-bytes-requires c = place_within c.in-Some.place c.args.store.now c.args.cid.now (sym c.in-Some.is ∙ c.requires.block)
@@ -19,13 +19,13 @@ returns-then-is_malformed-clause-reading c =
     let place = c.in-Some.place in
     let there = sym c.in-Some.is ∙ c.requires.block in
     let dag = dag_cbor_is cid c.parts.result.codec (ap (λ (p : Parts). p.codec) c.parts.ensures) c.if-parts-ne-DAG_CBOR.false in
-    faulty_value store cid c.cursor-bytes.result dag (stored_bytes store cid place c.cursor-bytes.result dag c.requires.hashed there c.cursor-bytes.ensures)
+    faulty_value store cid c.cursor-bytes.result dag (stored_bytes store cid place c.cursor-bytes.result dag c.requires.needed there c.cursor-bytes.ensures)
     (sym (fault_of store place c.cursor-bytes.result c.is_malformed.result (place_within place store cid there) c.cursor-bytes.ensures c.is_malformed.ensures) ∙ c.if-is_malformed.true)
 
 pub returns-clause-bytes : goal.returns-clause-bytes
 returns-clause-bytes c =
     let dag = dag_cbor_is c.args.cid.now c.parts.result.codec (ap (λ (p : Parts). p.codec) c.parts.ensures) c.if-parts-ne-DAG_CBOR.false in
-    stored_bytes c.args.store.now c.args.cid.now c.in-Some.place c.cursor-bytes.result dag c.requires.hashed (sym c.in-Some.is ∙ c.requires.block) c.cursor-bytes.ensures
+    stored_bytes c.args.store.now c.args.cid.now c.in-Some.place c.cursor-bytes.result dag c.requires.needed (sym c.in-Some.is ∙ c.requires.block) c.cursor-bytes.ensures
 
 pub returns-clause-reading : goal.returns-clause-reading
 returns-clause-reading c =
@@ -34,7 +34,7 @@ returns-clause-reading c =
     let place = c.in-Some.place in
     let there = sym c.in-Some.is ∙ c.requires.block in
     let dag = dag_cbor_is cid c.parts.result.codec (ap (λ (p : Parts). p.codec) c.parts.ensures) c.if-parts-ne-DAG_CBOR.false in
-    read_value store cid c.cursor-bytes.result dag (stored_bytes store cid place c.cursor-bytes.result dag c.requires.hashed there c.cursor-bytes.ensures)
+    read_value store cid c.cursor-bytes.result dag (stored_bytes store cid place c.cursor-bytes.result dag c.requires.needed there c.cursor-bytes.ensures)
     (sym (fault_of store place c.cursor-bytes.result c.is_malformed.result (place_within place store cid there) c.cursor-bytes.ensures c.is_malformed.ensures) ∙ c.if-is_malformed.false)
 
 pub returns-clause-item : goal.returns-clause-item

@@ -5,7 +5,8 @@ use Rattle.ix_walk.specs.declared.subtree.PendingLink.{PendingLink}
 use Rattle.ix_walk.specs.declared.visit.Visit.{Visit}
 use Rattle.ix_walk.specs.Visits.{is_malformed}
 use Rattle.ix_walk.specs.Walking.{waiting}
-use Rattle.ix_prefetch.specs.Link.{cid_at, IsHashed}
+use Rattle.ix_verdict.specs.Needed.{NeedsBlock}
+use Rattle.ix_prefetch.specs.Link.{cid_at}
 use Rattle.ix_prefetch.specs.Expansions.{residual_in}
 use Rattle.ix_prefetch.specs.TableState.{IsVisited}
 use Rattle.ix_prefetch.specs.Visiting.{IsVisitAt}
@@ -13,11 +14,11 @@ use Rattle.ix_prefetch.proofs.Tables.{named, cid_is}
 use Rattle.ix_prefetch.proofs.Visits.{is_visit_at}
 use Rattle.ix_prefetch.proofs.visiting.Visiting.visit_stored.Goals as goal
 
-pub read_stored-bytes-requires-clause-hashed : goal.read_stored-bytes-requires-clause-hashed
-read_stored-bytes-requires-clause-hashed c =
+pub read_stored-bytes-requires-clause-needed : goal.read_stored-bytes-requires-clause-needed
+read_stored-bytes-requires-clause-needed c =
     let t = c.args.self.now.table.now in
     let at = subst (λ (s : Blocks). slice_get (map (λ e. e.0) s) c.args.place ≡ Some c.in_ok-cid.cid) c.store-store.ensures c.in_ok-cid.ensures in
-    subst IsHashed (sym (cid_is t.store c.args.place c.in_ok-cid.cid c.requires.place.0 at)) c.requires.place.1
+    subst NeedsBlock (sym (cid_is t.store c.args.place c.in_ok-cid.cid c.requires.place.0 at)) c.requires.place.1
 
 pub visit_pair-requires-clause-visit : goal.visit_pair-requires-clause-visit
 visit_pair-requires-clause-visit c =
