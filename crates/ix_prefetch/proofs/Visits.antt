@@ -166,3 +166,10 @@ starts t number b s is once none at waits same =
     ∙ ap (λ (fs : List PendingLink). walk_left t.store number t.job.limit 0 (expanded_at_start t.store b) fs false)
     (ap (λ (fs : List PendingLink). fs ++ map (root_link t.job.selector) s.roots.now) (nothing_waits t s.at s.waiting.items (omega (arith, at)) waits) ∙ ap (map (root_link t.job.selector)) same)
     ∙ arrives_all t.store number t.job b is once
+
+-- ---- the block that is expanded
+
+-- the block that is expanded spells data
+pub expanded_block : (had has : Option Going) (store : Blocks) (f : PendingLink) (o : Option (List ℕ)) → Goes store f had o has → IfSome o (λ b. IsBlock b)
+expanded_block had has store f None goes = tt
+expanded_block had has store f (Some b) goes = (goes.inside.0, goes.inside.2)

@@ -3,14 +3,13 @@ use Rattle.ix_store.specs.Store.{Blocks}
 use Rattle.ix_walk.specs.Arriving.{Goes}
 use Rattle.ix_walk.specs.VisitedSet.{going_of}
 use Rattle.ix_walk.specs.Walking.{waiting}
-use Rattle.ix_lists.proofs.Waits.{expanded_block}
-use Rattle.ix_prefetch.proofs.Visits.{block_visited}
+use Rattle.ix_prefetch.proofs.Visits.{expanded_block, block_visited}
 use Rattle.ix_prefetch.proofs.visiting.Visiting.visit_bytes.Goals as goal
 
 pub put_block-requires : goal.put_block-requires
 put_block-requires c =
     let store = c.store.result.now in
-    expanded_block store (waiting c.args.residual.now 0 c.args.visit.cid) (going_of store c.args.state.now.expanded) (going_of store c.bytes_to_expand.new.expanded) c.in_ok-bytes.bytes (c.in_ok-bytes.ensures.goes 0)
+    expanded_block (going_of store c.args.state.now.expanded) (going_of store c.bytes_to_expand.new.expanded) store (waiting c.args.residual.now 0 c.args.visit.cid) c.in_ok-bytes.bytes (c.in_ok-bytes.ensures.goes 0)
 
 pub returns : goal.returns
 returns c =
