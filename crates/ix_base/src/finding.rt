@@ -1,7 +1,6 @@
 //! What the sections of a base say of the blocks of a store.
 
-ghost use Rattle.std.specs.Prelude.{◌≡◌, ◌<◌, ◌==◌, ◌&&◌, ℕ, Some, length, map, slice_index_or, is_none, IfOk};
-ghost use Rattle.ix_cbor.specs.Reading.{data_at};
+ghost use Rattle.std.specs.Prelude.{◌≡◌, ◌<◌, ℕ, Some, length, map, slice_index_or, IfOk};
 ghost use Rattle.ix_store.specs.Store.{position_of};
 ghost use Rattle.ix_store.specs.Sound.{verdict_of};
 ghost use Rattle.ix_archive.specs.Archive.{is_sound};
@@ -10,10 +9,10 @@ ghost use Rattle.ix_base.specs.Findings.{pair_of, IsFinding, IsFindingAt};
 
 use ix_car::Section;
 use ix_cid::code::DAG_CBOR;
-use ix_cid::{Cid, Parts};
+use ix_cid::Cid;
 use ix_interleave::map_interleaved;
-use ix_store::{PlaceSet, Store, has_fault};
-use ix_verdict::{Needed, Verdict, bytes_needed, has_digest};
+use ix_store::{PlaceSet, Store, has_fault, verdict_on};
+use ix_verdict::{Needed, Verdict, bytes_needed};
 use std::alloc::{AllocError, Global};
 use std::thread::Threads;
 
@@ -105,7 +104,7 @@ fn is_sound_copy(store: &Store, place: usize, cid: &Cid, block: &[u8]) -> bool
     if store.bytes(place) == block {
         return is_sound(verdict_at(store, place, cid));
     }
-    is_sound(verdict_on(cid, block))
+    is_sound(verdict_on(cid.as_bytes(), block))
 }
 
 // Returns the verdict on a CID, whose block is at this position of a store.
@@ -116,7 +115,7 @@ fn verdict_at(store: &Store, place: usize, cid: &Cid) -> Verdict
     let parts = cid.parts();
     match bytes_needed(&parts) {
         Needed::Nothing(verdict) => verdict,
-        Needed::Digest => Verdict::of_inline(is_malformed_in(&parts, parts.digest)),
+        Needed::Digest => Verdict::of_inline(parts.codec == DAG_CBOR && has_fault(parts.digest)),
         Needed::Block(_) => Verdict::of_block(
             store.hash_matches(place),
             parts.codec == DAG_CBOR && store.is_malformed(place),
@@ -128,26 +127,4 @@ fn is_sound(verdict: Verdict) -> bool
     ensures { result ≡ is_sound verdict }
 {
     verdict == Verdict::Sound
-}
-
-// Returns the verdict on a CID and the block under it.
-fn verdict_on(cid: &Cid, block: &[u8]) -> Verdict
-    ensures { result ≡ verdict_of (cid.now, block.now) }
-{
-    let parts = cid.parts();
-    match bytes_needed(&parts) {
-        Needed::Nothing(verdict) => verdict,
-        Needed::Digest => Verdict::of_inline(is_malformed_in(&parts, parts.digest)),
-        Needed::Block(function) => {
-            let matches = has_digest(function, parts.digest, block);
-            Verdict::of_block(matches, matches && is_malformed_in(&parts, block))
-        }
-    }
-}
-
-// Whether the codec in the parts of a CID is DAG-CBOR and bytes aren't valid DAG-CBOR.
-fn is_malformed_in(parts: &Parts<'_>, bytes: &[u8]) -> bool
-    ensures { result ≡ ((parts.now.codec == 0x71) && is_none (data_at bytes.now)) }
-{
-    parts.codec == DAG_CBOR && has_fault(bytes)
 }

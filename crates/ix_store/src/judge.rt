@@ -78,8 +78,9 @@ fn join_shares(alloc: Global, entries: &Entries<'_>, share: usize, shares: &[Jud
     Ok(verdicts)
 }
 
-// Returns the verdict on a CID and the block under it.
-fn verdict_on(cid: &[u8], block: &[u8]) -> Verdict
+/// Returns the verdict on the bytes of a CID and the block under it, which is decoded only if its hash
+/// matches.
+pub fn verdict_on(cid: &[u8], block: &[u8]) -> Verdict
     ensures { result ≡ verdict_of (cid.now, block.now) }
 {
     let parts = parts_at(cid);

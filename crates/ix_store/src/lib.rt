@@ -33,6 +33,7 @@ mod verify;
 
 pub use builder::StoreBuilder;
 pub use cursor::Cursor;
+pub use judge::verdict_on;
 pub use places::PlaceSet;
 pub use sound::{SoundBuilder, SoundStore};
 pub use store::Store;
