@@ -17,6 +17,9 @@
 //! let counts = receiver.finish()?;
 //! ```
 //!
+//! Sections that are there together can be hashed at the same time: `ix_store::verdict_on` judges one, and
+//! `offer_judged` receives it by that verdict.
+//!
 //! `law::archive_is_its_own` is about what is exported, and `law::received_one_by_one` about how an
 //! archive is checked section by section, as it comes.
 #![tactic(auto)]

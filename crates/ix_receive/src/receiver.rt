@@ -1,6 +1,7 @@
 //! The receiver.
 
-ghost use Rattle.std.specs.Prelude.{◌≡◌, true, false, map, IfOk, IfErr, OnOk, OnErr};
+ghost use Rattle.std.specs.Prelude.{◌≡◌, true, false, map, Some, IfOk, IfErr, OnOk, OnErr};
+ghost use Rattle.ix_verdict.specs.Verdict.{verdict_with};
 ghost use Rattle.ix_receive.specs.Base.{known_blocks};
 ghost use Rattle.ix_receive.specs.Keeping.{kept_of};
 ghost use Rattle.ix_receive.specs.Reception.{nothing_received, nothing_received_with, IsReceiving, IsReceived, Receives, reception_with, IsRefused, IsRightlyRefused, IsWhole, IsUnfinished};
@@ -11,12 +12,13 @@ use crate::counts::Counts;
 use crate::fault::ReceiveFault;
 use crate::passing::{advance_to, pass_all};
 use crate::request::Request;
-use crate::section::{is_sound, verdict_on};
+use crate::section::is_sound;
 use crate::sections::Sections;
 use crate::traversal::{Traversal, expand_link};
 use ix_cid::Cid;
 use ix_selector::law;
-use ix_store::Store;
+use ix_store::{Store, verdict_on};
+use ix_verdict::Verdict;
 use ix_walk::Job;
 use std::alloc::Global;
 use std::collections::BTreeSet;
@@ -67,16 +69,18 @@ impl<'s> Model for Receiver<'s> {
         → IsReceiving r.sections.0 r.asked.job.now r.asked.allowed r.sections.1 r.traversal };
 }
 
-// Receives the next section, if it is sound, the base doesn't have its block, and the first visit of its
-// CID is still to come.
+// Receives the next section, on which this is the verdict, if it is sound, the base doesn't have its block,
+// and the first visit of its CID is still to come.
 fn receive<'s>(
     asked: &Request<'s>,
     sections: &mut Sections<'s>,
     t: &mut Traversal<'s>,
     cid: Cid,
     block: &[u8],
+    verdict: Verdict,
 ) -> Result<(), ReceiveFault>
-    requires { IsReceiving sections.old.0 asked.now.job.now asked.now.allowed sections.old.1 t.old }
+    requires receiving { IsReceiving sections.old.0 asked.now.job.now asked.now.allowed sections.old.1 t.old }
+    requires judged { verdict ≡ verdict_with cid (Some block.now) }
     ensures received { OnOk result (IsReceived asked.now.job.now asked.now.allowed sections.old t.old.visits
         (cid, block.now) sections.new t.new) }
     ensures refused { IfErr result (IsRefused (reception_with sections.old.0 asked.now.job.now
@@ -84,7 +88,6 @@ fn receive<'s>(
     ensures rightly { IfErr result (IsRightlyRefused (reception_with sections.old.0
         asked.now.job.now asked.now.allowed sections.old.1 t.old.visits false) (cid, block.now)) }
 {
-    let verdict = verdict_on(&cid, block);
     if !is_sound(verdict) {
         return Err(ReceiveFault::Unsound(verdict));
     }
@@ -161,6 +164,24 @@ impl<'s> Receiver<'s> {
         ensures rightly { IfErr result (IsRightlyRefused self.old (cid, block.now)) }
         ensures ended { OnErr result (self.new.ended ≡ true) }
     {
+        let verdict = verdict_on(cid.as_bytes(), block);
+        self.offer_judged(cid, block, verdict)
+    }
+
+    /// Receives the next section as `offer` does, by the verdict that `ix_store::verdict_on` returns for it. So the
+    /// blocks of several sections can be hashed at the same time before these are received in order.
+    pub fn offer_judged(
+        &mut self,
+        cid: Cid,
+        block: &[u8],
+        verdict: Verdict,
+    ) -> Result<(), ReceiveFault>
+        requires { verdict ≡ verdict_with cid (Some block.now) }
+        ensures received { OnOk result (Receives self.old (cid, block.now) self.new) }
+        ensures refused { IfErr result (IsRefused self.old (cid, block.now)) }
+        ensures rightly { IfErr result (IsRightlyRefused self.old (cid, block.now)) }
+        ensures ended { OnErr result (self.new.ended ≡ true) }
+    {
         if self.ended {
             return Err(ReceiveFault::Ended);
         }
@@ -171,6 +192,7 @@ impl<'s> Receiver<'s> {
             &mut self.traversal,
             cid,
             block,
+            verdict,
         )?;
         self.ended = false;
         Ok(())

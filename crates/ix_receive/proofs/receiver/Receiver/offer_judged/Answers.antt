@@ -2,7 +2,7 @@ use Rattle.std.proofs.Common.{subst}
 use Rattle.std.proofs.lemmas.Result.{err_from_is_err_and}
 use Rattle.ix_receive.specs.Reception.{IsRefused}
 use Rattle.ix_receive.proofs.Refusals.{refused}
-use Rattle.ix_receive.proofs.receiver.Receiver.offer.Goals as goal
+use Rattle.ix_receive.proofs.receiver.Receiver.offer_judged.Goals as goal
 
 pub returns-in_err-receive-clause-refused : goal.returns-in_err-receive-clause-refused
 returns-in_err-receive-clause-refused c =
