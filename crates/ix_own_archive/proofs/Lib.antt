@@ -1,3 +1,4 @@
+mod Ahead
 mod Written
 mod Headers
 mod Receiving

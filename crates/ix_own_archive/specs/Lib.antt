@@ -1,3 +1,4 @@
+pub mod Ahead
 pub mod Checking
 pub mod FaultWords
 pub mod Laws

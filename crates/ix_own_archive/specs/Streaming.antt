@@ -1,5 +1,5 @@
 -- A receiver of a stream as contracts see it, and what is found of a stream.
-use Rattle.std.specs.Prelude.{◌≡◌, ℕ, ◌+◌, ◌<◌, ◌≤◌, ◌^◌, Bool, true, false, List, [], ◌++◌, length, map, flat_map, Some, Ok, Err, refl}
+use Rattle.std.specs.Prelude.{◌≡◌, ℕ, ◌+◌, ◌<◌, ◌≤◌, ◌^◌, Bool, true, false, List, [], ◌++◌, length, map, flat_map, Some, Result, Ok, Err, OnOk, IfErr, refl}
 use Rattle.std.specs.List.{AllByRecursion}
 use Rattle.std.specs.Coded.{Coded, code_by, coded×, coded_ℕ, coded_bool, coded_list}
 use Rattle.std.proofs.Common.{ap}
@@ -21,6 +21,7 @@ use Rattle.ix_own_archive.specs.declared.fault.ArchiveReason.TheVariants.{Header
 use Rattle.ix_own_archive.specs.declared.stream_asked.ExpectedHeader.{ExpectedHeader}
 use Rattle.ix_own_archive.specs.declared.stream_asked.ExpectedHeader.TheVariants.{OfJob, Any}
 use Rattle.ix_own_archive.specs.declared.stream_asked.StreamLimits.{StreamLimits}
+use Rattle.ix_own_archive.specs.declared.stream_fault.StreamFault.{StreamFault}
 use Rattle.ix_own_archive.specs.declared.stream_fault.StreamReason.{StreamReason}
 use Rattle.ix_own_archive.specs.declared.stream_fault.StreamReason.TheVariants.{Archive, HeaderLength, SectionLength, Ended}
 use Rattle.ix_own_archive.specs.Checking.{IsAcceptedWith, IsJobsOwnWith, IsFaultAtWith, IsRightlyNotWith}
@@ -217,6 +218,12 @@ abbrev pub IsStoppedAt : Stream → List ℕ → ℕ → StreamReason → Type 0
 IsStoppedAt old piece place Ended = old.ended ≡ true
 IsStoppedAt old piece place reason =
     (more : List ℕ) → IsStop old.asked ((taken_of old ++ piece) ++ more) place reason
+
+-- a piece is taken, or a receiver stops at it
+pub record Takes (old : Stream) (piece : List ℕ) (new : Stream) (result : Result (Unit {0}) StreamFault) : Type 0 where
+  pub taken : OnOk result (TakesOn old piece new)
+  pub stops : IfErr result (λ e. StopsAt old new e.place)
+  pub fault : IfErr result (λ e. IsStoppedAt old piece e.place e.reason)
 
 -- all bytes of a stream were taken: the archive that it is is the job's own, and accepted
 pub record IsWholeStream (asked : Asked) (stream : List ℕ) (counts : Counts) : Type 0 where

@@ -1,15 +1,19 @@
 //! The check of an archive.
 
-ghost use Rattle.std.specs.Prelude.{◌≡◌, ◌++◌, IfOk, IfErr, OnOk};
+ghost use Rattle.std.specs.Prelude.{◌≡◌, ◌++◌, Some, IfOk, IfErr, IfSome, OnOk};
 ghost use Rattle.std.specs.List.{AllByRecursion};
 ghost use Rattle.ix_cid.specs.Cid.{IsCid};
+ghost use Rattle.ix_verdict.specs.Verdict.{verdict_with};
 ghost use Rattle.ix_car.specs.Writing.{header_of};
+ghost use Rattle.ix_own_archive.specs.Ahead.{IsFrontVerdict};
 ghost use Rattle.ix_own_archive.specs.Checking.{IsAccepted, IsJobsOwn, IsFaultAt, IsRightlyNot, IsHeaderReason, HasReceived, IsSectionReason};
 
 use crate::fault::{ArchiveFault, ArchiveReason};
 use ix_car::{CarFault, CarKind, header_of, read_header, read_section};
 use ix_cid::Cid;
 use ix_receive::{AllowMissing, Counts, Receiver, law};
+use ix_store::verdict_on;
+use ix_verdict::Verdict;
 use ix_walk::Job;
 use std::alloc::Global;
 
@@ -82,7 +86,7 @@ fn check_sections(
     let mut receiver = Receiver::new(alloc, job, allowed);
     let mut rest = sections;
     while !rest.is_empty() {
-        match receive_section(alloc, &mut receiver, rest) {
+        match receive_section(alloc, &mut receiver, rest, None) {
             Ok(after) => rest = after,
             Err(reason) => {
                 return Err(ArchiveFault {
@@ -110,12 +114,26 @@ pub(crate) fn roots_are_cids(roots: &[Cid])
     }
 }
 
-// Offers the section at the front of some bytes to a receiver, and returns the bytes after it.
+// Returns the verdict on a CID and its block, which is known or found now.
+fn known_verdict(known: Option<Verdict>, cid: &Cid, block: &[u8]) -> Verdict
+    requires { IfSome known (λ v. v ≡ verdict_with cid.now (Some block.now)) }
+    ensures { result ≡ verdict_with cid.now (Some block.now) }
+{
+    match known {
+        Some(verdict) => verdict,
+        None => verdict_on(cid.as_bytes(), block),
+    }
+}
+
+// Offers the section at the front of some bytes to a receiver, and returns the bytes after it. The verdict
+// on it may be known.
 pub(crate) fn receive_section<'a>(
     alloc: Global,
     receiver: &mut Receiver<'_>,
     bytes: &'a [u8],
+    known: Option<Verdict>,
 ) -> Result<&'a [u8], ArchiveReason>
+    requires { IfSome known (IsFrontVerdict bytes.now) }
     ensures received { IfOk result (λ rest. HasReceived bytes.now rest.now receiver.old receiver.new) }
     ensures refused { IfErr result (IsSectionReason receiver.old bytes.now) }
 {
@@ -126,7 +144,8 @@ pub(crate) fn receive_section<'a>(
     let Ok(cid) = section.cid.to_cid(alloc) else {
         return Err(ArchiveReason::Memory);
     };
-    match receiver.offer(cid, section.block) {
+    let verdict = known_verdict(known, &cid, section.block);
+    match receiver.offer_judged(cid, section.block, verdict) {
         Ok(()) => Ok(rest),
         Err(fault) => match section.cid.to_cid(alloc) {
             Ok(cid) => Err(ArchiveReason::Refused(cid, fault)),

@@ -28,6 +28,7 @@ mod check;
 mod fault;
 pub mod law;
 mod stream;
+mod stream_ahead;
 mod stream_asked;
 mod stream_bytes;
 mod stream_fault;

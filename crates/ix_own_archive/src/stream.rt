@@ -3,8 +3,9 @@
 ghost use Rattle.std.specs.Prelude.{◌≡◌, false, [], length, drop, IfOk, IfErr, OnOk};
 ghost use Rattle.ix_receive.specs.Base.{known_blocks, base_of};
 ghost use Rattle.ix_receive.specs.Reception.{nothing_received_with};
-ghost use Rattle.ix_own_archive.specs.Streaming.{nothing_taken, TakesOn, StopsAt, IsStoppedAt, IsWholeStream, taken_of, IsCutAt, AreKeptOf};
+ghost use Rattle.ix_own_archive.specs.Streaming.{nothing_taken, TakesOn, StopsAt, IsStoppedAt, Takes, IsWholeStream, taken_of, IsCutAt, AreKeptOf};
 
+use crate::stream_ahead::{ByThreads, InTurn, Judge};
 use crate::stream_asked::{ExpectedHeader, StreamLimits};
 use crate::stream_bytes::StreamBytes;
 use crate::stream_fault::{StreamFault, StreamReason};
@@ -16,6 +17,8 @@ use ix_store::Store;
 use ix_walk::Job;
 use std::alloc::{AllocError, Global};
 use std::marker::Model;
+use std::num::NonZeroUsize;
+use std::thread::Threads;
 
 /// A receiver of the bytes of an archive, in pieces of any size: it checks that they are the own
 /// archive of a job, as `check_archive` does, and at each section as soon as it is whole.
@@ -155,6 +158,29 @@ impl<'s> StreamReceiver<'s> {
         ensures stops { IfErr result (λ e. StopsAt self.old self.new e.place) }
         ensures fault { IfErr result (λ e. IsStoppedAt self.old piece.now e.place e.reason) }
     {
+        self.take(piece, &InTurn)
+    }
+
+    /// Takes the next bytes as `append` does. At most so many threads hash the sections that they complete,
+    /// at the same time, and each takes at least 64 KiB of them.
+    pub fn append_by<R: Threads + Sync>(
+        &mut self,
+        rt: &R,
+        piece: &[u8],
+        threads: NonZeroUsize,
+    ) -> Result<(), StreamFault>
+        ensures taken { OnOk result (TakesOn self.old piece.now self.new) }
+        ensures stops { IfErr result (λ e. StopsAt self.old self.new e.place) }
+        ensures fault { IfErr result (λ e. IsStoppedAt self.old piece.now e.place e.reason) }
+    {
+        self.take(piece, &ByThreads { rt, threads })
+    }
+
+    // Takes the next bytes. The judge judges sections before they are taken.
+    fn take<J: Judge>(&mut self, piece: &[u8], judge: &J) -> Result<(), StreamFault>
+        requires { J.ready judge.now }
+        ensures { Takes self.old piece.now self.new result }
+    {
         if self.ended {
             return Err(StreamFault {
                 place: self.bytes.place(),
@@ -162,7 +188,13 @@ impl<'s> StreamReceiver<'s> {
             });
         }
         self.ended = true;
-        match take_piece(&self.request, &mut self.receiver, &mut self.bytes, piece) {
+        match take_piece(
+            &self.request,
+            &mut self.receiver,
+            &mut self.bytes,
+            piece,
+            judge,
+        ) {
             Ok(()) => {
                 self.ended = false;
                 Ok(())

@@ -1,6 +1,6 @@
 //! The bytes of a stream that wait.
 
-ghost use Rattle.std.specs.Prelude.{◌≡◌, ◌<◌, ◌≤◌, [], ◌++◌, length, drop, OnOk, OnErr};
+ghost use Rattle.std.specs.Prelude.{◌≡◌, ◌-◌, ◌<◌, ◌≤◌, [], ◌++◌, length, drop, vec_len, OnOk, OnErr};
 ghost use Rattle.ix_own_archive.specs.Taking.{bytes_of, with_piece, advanced, all_released};
 
 use ix_check::History;
@@ -59,6 +59,21 @@ fn record_bytes(history: &mut History<u8>, bytes: &[u8])
     for byte in bytes {
         history.push(byte);
     }
+}
+
+// Removes so many bytes, and moves those after them alone, or none where none is removed: so a section that
+// comes in many pieces isn't moved with each.
+fn remove_front(bytes: &mut Vec<u8>, count: usize)
+    requires { count ≤ vec_len bytes.old }
+    ensures items { bytes.new.items ≡ drop count bytes.old.items }
+    ensures len { vec_len bytes.new ≡ vec_len bytes.old - count }
+{
+    if count == 0 {
+        return;
+    }
+    let len = bytes.len();
+    bytes.as_mut_slice().copy_within(count..len, 0);
+    bytes.truncate(len - count);
 }
 
 impl StreamBytes {
@@ -130,9 +145,7 @@ impl StreamBytes {
         ensures { self.new ≡ all_released self.old }
     {
         record_bytes(&mut self.gone, &self.kept[..self.checked]);
-        self.kept.rotate_left(self.checked);
-        let left = self.kept.len() - self.checked;
-        self.kept.truncate(left);
+        remove_front(&mut self.kept, self.checked);
         self.released += self.checked as u64;
         self.checked = 0;
     }

@@ -1,6 +1,7 @@
 //! The parts of a stream, checked once they are whole.
 
-ghost use Rattle.std.specs.Prelude.{◌≡◌, true, [], ◌++◌, length, IfOk, IfErr, OnOk, OnErr};
+ghost use Rattle.std.specs.Prelude.{◌≡◌, true, [], ◌++◌, length, IfOk, IfErr, IfSome, OnOk, OnErr};
+ghost use Rattle.ix_own_archive.specs.Ahead.{IsFrontVerdict, AreJudgedIn};
 ghost use Rattle.ix_own_archive.specs.Fronts.{is_whole};
 ghost use Rattle.ix_own_archive.specs.Requests.{asked_of};
 ghost use Rattle.ix_own_archive.specs.declared.stream_fault.StreamReason.TheVariants.{Archive};
@@ -11,6 +12,7 @@ ghost use Rattle.ix_own_archive.specs.Taking.{StopsHere, TakesPiece, StopsAtPiec
 
 use crate::check::{header_reason, receive_section, roots_are_cids};
 use crate::fault::ArchiveReason;
+use crate::stream_ahead::{Judge, Judged, known_at};
 use crate::stream_asked::ExpectedHeader;
 use crate::stream_bytes::StreamBytes;
 use crate::stream_fault::StreamReason;
@@ -18,6 +20,7 @@ use crate::stream_request::StreamRequest;
 use ix_car::{CarFault, CarKind, read_header};
 use ix_cid::{VarintFault, read_varint};
 use ix_receive::{Counts, Receiver, law};
+use ix_verdict::Verdict;
 use std::alloc::Global;
 
 // Whether the bytes at the front with their length before them are all there, or their length if it is
@@ -91,19 +94,22 @@ fn take_header(request: &StreamRequest<'_>, bytes: &mut StreamBytes) -> Result<b
     }
 }
 
-// Offers the section at the front to a receiver, if it is whole, and returns how many bytes it takes.
+// Offers the section at the front to a receiver, if it is whole, and returns how many bytes it takes. The
+// verdict on it may be known.
 fn next_section(
     alloc: Global,
     limit: usize,
     receiver: &mut Receiver<'_>,
     bytes: &[u8],
+    known: Option<Verdict>,
 ) -> Result<Option<usize>, StreamReason>
+    requires { IfSome known (IsFrontVerdict bytes.now) }
     ensures next { IfOk result (IsNext limit bytes.now receiver.old receiver.new) }
     ensures refused { IfErr result (IsNotNext limit bytes.now receiver.old) }
 {
     match is_whole(limit, bytes) {
         Ok(false) => Ok(None),
-        Ok(true) => match receive_section(alloc, receiver, bytes) {
+        Ok(true) => match receive_section(alloc, receiver, bytes, known) {
             Ok(rest) => Ok(Some(bytes.len() - rest.len())),
             Err(refused) => Err(StreamReason::Archive(refused)),
         },
@@ -111,21 +117,28 @@ fn next_section(
     }
 }
 
-// Checks the sections that are whole.
+// Checks the sections that are whole, of which some were judged.
 fn take_sections(
     request: &StreamRequest<'_>,
     receiver: &mut Receiver<'_>,
     bytes: &mut StreamBytes,
+    judged: &[Judged],
 ) -> Result<(), StreamReason>
-    requires { HasChecked (asked_of request.now) bytes.old receiver.old }
+    requires checked { HasChecked (asked_of request.now) bytes.old receiver.old }
+    requires judged { AreJudgedIn bytes.old.rest judged.now }
     ensures moved { MovesOn bytes.old bytes.new }
     ensures kept { OnOk result (IsKept (asked_of request.now) bytes.new receiver.new) }
     ensures stops { IfErr result (StopsHere (asked_of request.now) bytes.new) }
 {
     law::received_one_by_one();
+    let size = bytes.rest().len();
+    let mut number: usize = 0;
     loop {
         let limit = request.limits.section;
-        match next_section(request.alloc, limit, receiver, bytes.rest()) {
+        let rest = bytes.rest();
+        let known = known_at(judged, number, size.saturating_sub(rest.len()));
+        number = number.saturating_add(1);
+        match next_section(request.alloc, limit, receiver, rest, known) {
             Ok(None) => return Ok(()),
             Ok(Some(length)) => bytes.advance(length),
             Err(reason) => {
@@ -137,25 +150,32 @@ fn take_sections(
 }
 
 // Takes the next bytes, and checks the parts that they complete.
-pub(crate) fn take_piece(
+pub(crate) fn take_piece<J: Judge>(
     request: &StreamRequest<'_>,
     receiver: &mut Receiver<'_>,
     bytes: &mut StreamBytes,
     piece: &[u8],
+    judge: &J,
 ) -> Result<(), StreamReason>
-    requires { IsKept (asked_of request.now) bytes.old receiver.old }
+    requires ready { J.ready judge.now }
+    requires kept { IsKept (asked_of request.now) bytes.old receiver.old }
     ensures taken { OnOk result (TakesPiece (asked_of request.now) bytes.old piece.now bytes.new receiver.new) }
     ensures stops { IfErr result (StopsAtPiece (asked_of request.now) bytes.old piece.now bytes.new) }
 {
     let Ok(()) = bytes.push(piece) else {
         return Err(StreamReason::Archive(ArchiveReason::Memory));
     };
+    let (alloc, limit) = (request.alloc, request.limits.section);
     if bytes.parts() > 0 {
-        return take_sections(request, receiver, bytes);
+        let judged = judge.judge(alloc, limit, bytes.rest());
+        return take_sections(request, receiver, bytes, judged.as_slice());
     }
     match take_header(request, bytes) {
         Ok(false) => Ok(()),
-        Ok(true) => take_sections(request, receiver, bytes),
+        Ok(true) => {
+            let judged = judge.judge(alloc, limit, bytes.rest());
+            take_sections(request, receiver, bytes, judged.as_slice())
+        }
         Err(reason) => Err(reason),
     }
 }
