@@ -217,6 +217,27 @@ each_request judge_stream "${words[@]}" --out - --json
   echo 'total jobs=1 done=1 skips=0'
 } >received.wanted
 each_request judge_received_paths "${words[@]}" --paths --out out/a.car
+
+# The same of twenty leaves of 64 KiB, which several threads hash. Without some of its threads, or all, it accepts the archive
+# too: the thread of the first start reads ahead, and the others hash.
+leaf_list=94
+for number in $(seq 20); do
+  head -c 65536 /dev/zero | tr '\0' "\\$(printf %03o "$number")" >leaf
+  leaf_cid=01551220$(sha256sum <leaf | cut -c 1-64)
+  leaf_list+=$(link "$leaf_cid")
+  bytes "$(varint $((36 + 65536)))" "$leaf_cid" | cat - leaf >>leaves
+done
+leaf_list_cid=$(cbor "$leaf_list")
+bytes "$(header "$leaf_list_cid")" "$(section "$leaf_list_cid" "$leaf_list")" | cat - leaves >leaves.car
+wanted=$scratch/leaves.car
+words=(receive --root "$(text "$leaf_list_cid")" --out out/a.car "$wanted")
+for set in 0 1 2 4 6 18446744073709551614 18446744073709551615; do
+  run 0 "$set" "${words[@]}"
+  judge_receive
+  [ "$status" = 0 ] || fail 'another status'
+done
+each_request judge_receive "${words[@]}"
+
 wanted=$scratch/path.car
 "$program" get --blocks "$top/examples/library.car" --root bafyreigiavswv62tcfji62na4ecatawlzg33sy6uezl5lj3g56mxdhbnmq/album/photos/0 --out "$wanted" 2>stderr
 each_request judge_receive receive --root bafyreigiavswv62tcfji62na4ecatawlzg33sy6uezl5lj3g56mxdhbnmq/album/photos/0 "$wanted" --out out/a.car

@@ -3,9 +3,10 @@
 that isn't here yet, and names the first place otherwise. The streams are the archives of random jobs over random graphs, in
 which blocks are damaged, missing or in their CIDs, in pieces of 1, 7, 4,096 and 65,536 bytes; the same with one section left
 out, doubled, swapped with the next, moved to the end, or one that nobody asked for in each gap; small ones with each byte changed
-and cut at each byte; those of paths; and differences, with the base that they were made without, of which some copies are
-damaged, and with one more section that the base has. The line, the status and the bytes that are written are compared whole, half of them with
---paths: the links that are absent, and the one at which a stream stopped. `--seed` takes others. Ends with status 1 at the first that is wrong.
+and cut at each byte; those of paths; differences, with the base that they were made without, of which some copies are damaged,
+and with one more section that the base has; and leaves that several threads hash, by one processor and by all. The line, the
+status and the bytes that are written are compared whole, half of them with --paths: the links that are absent, and the one at
+which a stream stopped. `--seed` takes others. Ends with status 1 at the first that is wrong.
 """
 
 import argparse
@@ -161,13 +162,14 @@ def told(nodes, job, allowed, sections, tail=b"", base=None, with_paths=False):
 # Runs.
 
 
-def received(room, stream, words, piece):
-    """The status of a run, its lines, and what it wrote under its name and its part."""
+def received(room, stream, words, piece, processors=None):
+    """The status of a run, its lines, and what it wrote under its name and its part. It may have these processors alone."""
     out, part = room / "a.car", room / "a.car.part"
     for old in (out, part):
         old.unlink(missing_ok=True)
     run = [PROGRAM, "receive", "--no-sync", "--out", out, *words]
-    child = subprocess.Popen(run, stdin=subprocess.PIPE, stdout=subprocess.DEVNULL, stderr=subprocess.PIPE)
+    bound = (lambda: os.sched_setaffinity(0, processors)) if processors else None
+    child = subprocess.Popen(run, stdin=subprocess.PIPE, stdout=subprocess.DEVNULL, stderr=subprocess.PIPE, preexec_fn=bound)
     try:
         for at in range(0, len(stream), piece):
             os.write(child.stdin.fileno(), stream[at : at + piece])
@@ -392,6 +394,44 @@ def random_paths(room, seed, graphs):
     return f"{runs} paths"
 
 
+def many_threads(room, seed, graphs):
+    """A list of leaves that several threads hash: the whole archive, with each section damaged, and with each leaf twice. By one
+    processor and by all, in small pieces and at once, the same bytes are written, and the same line."""
+    chance = random.Random(f"{seed} threads")
+    leaves = [chance.randbytes(chance.choice((1, 5_000, 40_000, 90_000))) for _ in range(16)]
+    keys = [cid(RAW, leaf) for leaf in leaves]
+    node = bytes([0x80 + 16]) + b"".join(b"\xd8\x2a\x58" + bytes([len(key) + 1]) + b"\0" + key for key in keys)
+    root = cid(DAG_CBOR, node)
+    sections = [(root, node), *zip(keys, leaves)]
+    words, runs = ["--root", text(root)], 0
+    everywhere = os.sched_getaffinity(0)
+
+    def expect(changed, word, at):
+        nonlocal runs
+        stream = header([root]) + b"".join(section(*pair) for pair in changed)
+        if word:
+            place = len(header([root])) + sum(len(section(*pair)) for pair in changed[:at])
+            wanted = (4, f"-: {word[0]} at {place}: {text(changed[at][0])}{word[1]}\n", None, stream[:place])
+        else:
+            counts = f"visits=17 kept=17 sections=17 bytes={len(stream)}"
+            wanted = (0, f"receive done {counts}\ntotal jobs=1 done=1 skips=0\n", stream, None)
+        for processors in ({min(everywhere)}, everywhere):
+            for piece in (4096, len(stream)):
+                came = received(room, stream, words, piece, processors)
+                if came != wanted:
+                    raise Wrong(f"{came[:2]} came and {wanted[:2]} was wanted, by processors {processors} in pieces of {piece}")
+                runs += 1
+
+    expect(sections, None, None)
+    for at, (key, block) in enumerate(sections):
+        place = chance.randrange(len(block))
+        damaged = block[:place] + bytes([block[place] ^ 1]) + block[place + 1 :]
+        expect(sections[:at] + [(key, damaged)] + sections[at + 1 :], ("damaged", ""), at)
+        if at:
+            expect(sections[: at + 1] + sections[at:], ("repeated", ": it came before; ask for dups=n"), at + 1)
+    return f"{runs} streams by one processor and by {len(everywhere)}"
+
+
 def main():
     parser = argparse.ArgumentParser(description=__doc__)
     parser.add_argument("--seed", default="1")
@@ -399,7 +439,7 @@ def main():
     words = parser.parse_args()
     answers = []
     with tempfile.TemporaryDirectory(prefix="receive-") as room:
-        for part in (random_streams, random_bases, changed_bytes, cut_streams, random_paths):
+        for part in (random_streams, random_bases, changed_bytes, cut_streams, random_paths, many_threads):
             try:
                 answers.append(part(pathlib.Path(room), words.seed, words.graphs))
             except Wrong as wrong:

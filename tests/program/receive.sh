@@ -348,6 +348,19 @@ expected='-: missing at 59: expected '
 expect_lines 'standard error' "$expected$one_text, and $empty_text came" "$scratch/stderr"
 expect_same out/a.car.part input.car out/a.car.part
 
+# The FIFO stays open, and nothing more comes: a thread reads ahead and waits for it.
+begin 'receive: a wrong section ends a stream whose sender says nothing more'
+mkfifo stalled
+timeout 60 "$top/ix_export" "${receive_one[@]}" stalled >"$scratch/stdout" 2>"$scratch/stderr" &
+exec 7>stalled
+bytes "$(header "$one_cid")" "$foreign_part" >&7
+status=0
+wait $! || status=$?
+exec 7>&-
+expect_text 'exit status' 4 "$status"
+expect_lines 'standard error' "stalled: missing at 59: expected $one_text, and $empty_text came" "$scratch/stderr"
+expect_same out/a.car.part input.car out/a.car.part
+
 begin 'receive: standard output that is a closed pipe, full, or closed'
 bytes "$one_archive" >input.car
 { { sleep 0.3; run_bare receive --root "$one_text" --out - input.car 2>"$scratch/stderr"; echo "$status" >ended; } | true; } || true

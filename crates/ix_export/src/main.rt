@@ -42,7 +42,14 @@ fn main(rt: HostRuntime) -> ExitCode {
 
 // Runs the command that these arguments name, and returns the status. Its failure is reported with the
 // cause; those of `jobs` and `root` have one line, and the cause on a second with `--verbose`.
-fn run_command<R: Host>(rt: &R, words: &[String], terminals: Terminals) -> u8 {
+fn run_command<R: Host + Copy + Send + 'static>(
+    rt: &R,
+    words: &[String],
+    terminals: Terminals,
+) -> u8
+where
+    R::Reader: Send + 'static,
+{
     let Ok(commands) = command_line(rt.alloc()) else {
         return Failure::Fault(RunFault::Memory).report(rt, Causes::Hidden);
     };

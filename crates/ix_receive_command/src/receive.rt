@@ -22,6 +22,7 @@ use ix_walk::Job;
 use std::alloc::{AllocError, Global};
 use std::fs;
 use std::io::{self, Read, Write};
+use std::num::NonZeroUsize;
 
 // The status of a stream that isn't accepted, or whose archive can't be written.
 const NOT_RECEIVED: u8 = 4;
@@ -29,16 +30,24 @@ const NOT_RECEIVED: u8 = 4;
 // How many threads read the files of the base at most.
 const LOADERS: usize = 8;
 
+// How many threads hash sections at most.
+const HASHERS: usize = 8;
+
 // The greatest length of a section where none is given.
 const MOST_SECTION: u64 = 8 * 1024 * 1024;
 
 /// Runs the command and returns the status. Its first error is reported, checked in this order: arguments,
 /// the files of the base, the beginning of the stream, output, and the stream.
-pub fn run<'a, R: Host>(
+///
+/// A thread reads the stream, and may still wait for its next bytes when the command returns.
+pub fn run<'a, R: Host + Copy + Send + 'static>(
     rt: &R,
     words: &ArgMatches<'a>,
     terminals: Terminals,
-) -> Result<u8, Failure> {
+) -> Result<u8, Failure>
+where
+    R::Reader: Send + 'static,
+{
     let command = ReceiveCommand::read(rt.alloc(), words, terminals)?;
     let asked = match asked_for(rt.alloc(), words) {
         Ok(asked) => asked,
@@ -140,13 +149,13 @@ impl<'a> ReceiveCommand<'a> {
 
     // Receives a stream. Closed streams are occupied, and the output is created, only once the first bytes
     // came, so a closed standard input is an error and not an empty input.
-    fn receive<R: Host, I: Read + Drop>(
+    fn receive<R: Host + Copy + Send + 'static, I: Read + Drop + Send + 'static>(
         &self,
         rt: &R,
         wanted: Wanted<'_>,
         input: I,
     ) -> Result<u8, Failure> {
-        let incoming = match Incoming::begin(rt.alloc(), input) {
+        let incoming = match Incoming::begin(rt, rt.alloc(), input) {
             Ok(incoming) => incoming,
             Err(Ended::Unreadable(error)) => {
                 return Err(Failure::cannot_read(rt.alloc(), self.input, &error));
@@ -220,10 +229,13 @@ impl<'a> ReceiveCommand<'a> {
             allowed: self.allowed.unwrap_or(AllowMissing::none()),
             header: self.header,
             most: self.most,
+            threads: NonZeroUsize::new(at_most_processors(rt, HASHERS)).unwrap_or(
+                NonZeroUsize::MIN,
+            ),
             has_paths: self.has_paths,
         };
         let progress = Progress::new(rt, self.progress);
-        let outcome = Reception::new(request, paths, writer)?.receive(incoming, &progress);
+        let outcome = Reception::new(request, paths, writer)?.receive(rt, incoming, &progress);
         if progress.is_shown() {
             progress.end_received();
         }

@@ -12,14 +12,18 @@ use ix_own_archive::{
     AllowMissing, ArchiveReason, Counts, ExpectedHeader, StreamFault, StreamLimits, StreamReason,
     StreamReceiver,
 };
+use ix_read_ahead::ReadAhead;
 use ix_store::Store;
 use ix_walk::Job;
 use std::alloc::{AllocError, Global};
 use std::io::{self, ErrorKind, Read, Write};
+use std::num::NonZeroUsize;
 use std::rt::Clock;
+use std::sync::Wait;
+use std::thread::Threads;
 
-// How many bytes are read at once at most.
-const PIECE: usize = 64 * 1024;
+// How many bytes are read ahead at least before the input has to wait.
+const AHEAD: usize = 4 * 1024 * 1024;
 
 // How many bytes of a stream show what it is.
 const FRONT: usize = 512;
@@ -60,59 +64,46 @@ pub(crate) struct Outcome {
     pub kept: Option<Store>,
 }
 
-/// A stream of which a piece was read.
+/// A stream of which a piece was read, and which is read ahead of that.
 #[derive(Drop)]
 pub(crate) struct Incoming<I> {
-    input: I,
-    buffer: Vec<u8>,
-    // How many bytes of the buffer the piece has: none at the end.
-    count: usize,
+    input: ReadAhead<I>,
+    // The bytes that came last: none at the end.
+    piece: Vec<u8>,
     // The first bytes of the stream.
     front: Vec<u8>,
 }
 
-impl<I: Read + Drop> Incoming<I> {
+impl<I: Read + Drop + Send + 'static> Incoming<I> {
     /// Reads the first piece of a stream: as many bytes as are there.
-    pub(crate) fn begin(alloc: Global, input: I) -> Result<Incoming<I>, Ended> {
+    pub(crate) fn begin<R: Threads + Wait + Copy + Send + 'static>(
+        rt: &R,
+        alloc: Global,
+        input: I,
+    ) -> Result<Incoming<I>, Ended> {
         let mut incoming = Incoming {
-            input,
-            buffer: vec![in alloc; 0u8; PIECE]?,
-            count: 0,
+            input: ReadAhead::start(rt, alloc, input, AHEAD)?,
+            piece: Vec::new(alloc),
             front: Vec::new(alloc),
         };
-        incoming.advance()?;
+        incoming.advance(rt)?;
         Ok(incoming)
-    }
-
-    // Reads the next piece.
-    fn advance(&mut self) -> Result<(), Ended> {
-        match read_some(&mut self.input, self.buffer.as_mut_slice()) {
-            Ok(count) => self.count = count,
-            Err(error) => return Err(Ended::Unreadable(error)),
-        }
-        let (piece, _) = self.buffer.split_at(self.count.min(self.buffer.len()));
-        let left = FRONT.saturating_sub(self.front.len());
-        let (front, _) = piece.split_at(left.min(piece.len()));
-        self.front.extend_from_slice(front)?;
-        Ok(())
-    }
-
-    // Returns the piece.
-    fn piece(&self) -> &[u8] {
-        let (piece, _) = self.buffer.split_at(self.count.min(self.buffer.len()));
-        piece
     }
 }
 
-// Reads what is there, or waits for the next byte. A read that was interrupted is repeated.
-fn read_some<I: Read>(input: &mut I, buffer: &mut [u8]) -> io::Result<usize> {
-    for _ in 0..u64::MAX {
-        match input.read(buffer) {
-            Err(error) if error.kind() == ErrorKind::Interrupted => {}
-            read => return read,
+impl<I: Read> Incoming<I> {
+    // Reads the next piece.
+    fn advance<R: Wait>(&mut self, rt: &R) -> Result<(), Ended> {
+        match self.input.take(rt, &mut self.piece) {
+            Ok(()) => {}
+            Err(error) if error.kind() == ErrorKind::OutOfMemory => return Err(Ended::Memory),
+            Err(error) => return Err(Ended::Unreadable(error)),
         }
+        let left = FRONT.saturating_sub(self.front.len());
+        let (front, _) = self.piece.split_at(left.min(self.piece.len()));
+        self.front.extend_from_slice(front)?;
+        Ok(())
     }
-    Ok(0)
 }
 
 /// What is asked of a stream.
@@ -126,6 +117,8 @@ pub(crate) struct Request<'s> {
     pub header: ExpectedHeader,
     /// The greatest length of a section.
     pub most: usize,
+    /// How many threads hash sections at most.
+    pub threads: NonZeroUsize,
     /// Whether it is asked where visits are.
     pub has_paths: bool,
 }
@@ -170,6 +163,7 @@ impl<'s, W: Write + Drop> Reception<'s, W> {
             allowed,
             header,
             most,
+            threads: _,
             has_paths: _,
         } = request;
         let limits = StreamLimits {
@@ -191,13 +185,20 @@ impl<'s, W: Write + Drop> Reception<'s, W> {
     }
 
     /// Receives a stream to its end, or to the first error.
-    pub(crate) fn receive<I, R>(self, incoming: Incoming<I>, progress: &Progress<R>) -> Outcome
+    pub(crate) fn receive<I, R>(
+        self,
+        rt: &R,
+        incoming: Incoming<I>,
+        progress: &Progress<R>,
+    ) -> Outcome
     where
         I: Read + Drop,
-        R: AllocGlobal + Clock + Eprint,
+        R: AllocGlobal + Clock + Eprint + Threads + Wait + Sync,
     {
         let (mut reception, mut incoming) = (self, incoming);
-        match reception.take_all(&mut incoming, progress) {
+        let taken = reception.take_all(rt, &mut incoming, progress);
+        incoming.input.close(rt);
+        match taken {
             Ok(()) => reception.finish(incoming.front.as_slice()),
             Err(ended) => reception.stop(ended),
         }
@@ -206,38 +207,31 @@ impl<'s, W: Write + Drop> Reception<'s, W> {
     // Takes the pieces of a stream, each as soon as it is there.
     fn take_all<I, R>(
         &mut self,
+        rt: &R,
         incoming: &mut Incoming<I>,
         progress: &Progress<R>,
     ) -> Result<(), Ended>
     where
         I: Read + Drop,
-        R: AllocGlobal + Clock + Eprint,
+        R: AllocGlobal + Clock + Eprint + Threads + Wait + Sync,
     {
         for _ in 0..u64::MAX {
-            let count = self.take_piece(incoming)?;
-            if count == 0 {
+            if incoming.piece.is_empty() {
                 break;
             }
-            progress.set_received(self.sections, count);
-            incoming.advance()?;
+            let piece = incoming.piece.as_slice();
+            self.take(rt, piece, incoming.front.as_slice())?;
+            progress.set_received(self.sections, piece.len() as u64);
+            incoming.advance(rt)?;
         }
         Ok(())
     }
 
-    // Takes the piece that was read of a stream, and returns its length: 0 at the end.
-    fn take_piece<I: Read + Drop>(&mut self, incoming: &Incoming<I>) -> Result<u64, Ended> {
-        let piece = incoming.piece();
-        if !piece.is_empty() {
-            self.take(piece, incoming.front.as_slice())?;
-        }
-        Ok(piece.len() as u64)
-    }
-
     // Takes the next bytes, and writes what they complete.
-    fn take(&mut self, piece: &[u8], front: &[u8]) -> Result<(), Ended> {
+    fn take<R: Threads + Sync>(&mut self, rt: &R, piece: &[u8], front: &[u8]) -> Result<(), Ended> {
         let alloc = self.request.alloc;
         let before = self.bytes;
-        let appended = self.receiver.append(piece);
+        let appended = self.receiver.append_by(rt, piece, self.request.threads);
         let sections = self.receiver.sections();
         if let Some(stop) = self.paths.look(self.receiver.checked())? {
             self.write(stop.end)?;
