@@ -372,6 +372,16 @@ expect 4 '' 'cannot write -: No space left on device (os error 28)'
 run_bare receive --root "$one_text" --out - input.car >&- 2>"$scratch/stderr"
 expect 4 '' 'cannot write -: Bad file descriptor (os error 9)'
 
+# FILE gets the number of standard error, and the thread that reads it may be at its end before the archive is created.
+begin 'receive: no report gets into an archive where standard error is closed'
+bytes "$one_archive" >input.car
+for number in $(seq 50); do
+  run_bare "${receive_one[@]}" --no-sync input.car 2>&- >"$scratch/stdout"
+  expect_text 'exit status' 0 "$status"
+  expect_bytes out/a.car "$one_archive"
+  rm out/a.car
+done
+
 begin 'receive: a file that may grow no longer, and what was there'
 long_block 2000
 bytes "$(header "$long_cid")" "$(section "$long_cid" "$long")" >input.car
