@@ -1,12 +1,11 @@
 -- What was added to a table, step by step.
-use Rattle.std.proofs.Common.{◌≡◌, ℕ, ◌+◌, ◌-◌, ◌<◌, ◌≤◌, Bool, true, false, List, [], ◌∷◌, ◌++◌, length, map, get_or, take, drop, refl, sym, ◌∙◌, ap, subst, arith, length-append, append-nil, append_assoc}
-use Rattle.std.specs.Prelude.{Option, Some, None, Result, Ok, Err, OnOk, OnErr, slice_get, slice_range, All}
+use Rattle.std.proofs.Common.{◌≡◌, ℕ, ◌+◌, ◌-◌, ◌<◌, ◌≤◌, Bool, true, false, List, [], ◌∷◌, ◌++◌, length, map, get_or, take, drop, refl, sym, ◌∙◌, ap, subst, arith, length-append, length-drop, append-nil, append_assoc}
+use Rattle.std.specs.Prelude.{Option, Some, Result, Ok, Err, OnOk, OnErr, slice_get, slice_range, All}
 use Rattle.std.proofs.Math.ListN.{get_or-append}
 use Rattle.std.proofs.Math.Seq.{drop-append_seam}
-use Rattle.std.proofs.lemmas.List.{map_more, take_all, length-map}
+use Rattle.std.proofs.lemmas.List.{take_more, take_all, length-map, get_or-drop}
 use Rattle.std.proofs.lemmas.Option.{get_or_from_slice_get, slice_get_within, slice_get-get_or}
 use Rattle.ix_cbor.specs.Data.{Data}
-use Rattle.ix_cbor.specs.Reading.{decoded}
 use Rattle.ix_selector.specs.Pattern.{Pattern, IsSelector}
 use Rattle.ix_selector.specs.Residual.{Place}
 use Rattle.ix_selector.proofs.Onward.{left-entered}
@@ -20,12 +19,15 @@ use Rattle.ix_walk.proofs.Starts.{followed}
 use Rattle.ix_walk.proofs.Goes.{sound_stored, sound_valued, damaged_barren}
 use Rattle.ix_lists.specs.Expansion.{AreLinksIn}
 use Rattle.ix_prefetch.specs.Reading.{IsBlockAt, IsReadAt}
-use Rattle.ix_prefetch.specs.Expansions.{ExpansionTable, IsMet, residual_in, HasNumber, IsPair, table_of}
+use Rattle.ix_prefetch.specs.Expansions.{ExpansionTable, IsMet, residual_in, HasNumber, IsLinkAt, IsPair, IsTableOf, link_at, table_of}
 use Rattle.ix_prefetch.specs.Link.{cid_at, pending_of}
 use Rattle.ix_prefetch.specs.declared.link.Link.{Link}
+use Rattle.ix_prefetch.specs.declared.link.LinkAt.TheVariants.{Stored, Written}
+use Rattle.ix_prefetch.specs.declared.link.Pair.{Pair}
 use Rattle.ix_prefetch.specs.declared.reading.Read.{Read}
+use Rattle.ix_prefetch.specs.declared.stop.TableStop.{TableStop}
 use Rattle.ix_walk.specs.JobMeaning.{JobMeaning}
-use Rattle.ix_prefetch.specs.Growing.{Adds, AddsSome, AddsBlock, at_depth}
+use Rattle.ix_prefetch.specs.Growing.{Adds, AddsSome, AddsBlock, AddsOrSome, AddsBlockOrSome, AddsPair, at_depth}
 use Rattle.ix_prefetch.proofs.Resting.{HaveRests, rests_below, moved_below}
 
 -- nothing was added
@@ -126,6 +128,16 @@ pub on_err : {T E P : Type 0} (r : Result T E) → P → OnErr r P
 on_err (Ok x) p = tt
 on_err (Err e) p = p
 
+-- what a failed call added
+pub some_added : {T : Type 0} (old new : ExpansionTable) (links : List PendingLink) (r : Result T TableStop) (y : TableStop) → r ≡ Err y → AddsSome old new → AddsOrSome old new links r
+some_added {T = T} old new links r y e some = subst (λ (x : Result T TableStop). AddsOrSome old new links x) (sym e) (record { added = tt; err = some })
+
+pub some_of_block : (old new : ExpansionTable) (c : List ℕ) (places : List Place) (r : Result Bool TableStop) (y : TableStop) → r ≡ Err y → AddsSome old new → AddsBlockOrSome old new c places r
+some_of_block old new c places r y e some = subst (AddsBlockOrSome old new c places) (sym e) (record { block = tt; err = some })
+
+pub some_of_pair : (old new : ExpansionTable) (r : Result Pair TableStop) (y : TableStop) → r ≡ Err y → AddsSome old new → AddsPair old new r
+some_of_pair old new r y e some = subst (AddsPair old new) (sym e) (record { some = some; pair = tt })
+
 -- a link that was added after a residual
 pub link_added : (old mid new : ExpansionTable) (places : List Place) (n : ℕ) (c d : List ℕ) → Adds old mid [] → HasNumber mid places n → d ≡ c → Adds mid new (waiting (residual_in mid n) 0 d ∷ []) → Adds old new (waiting places 0 c ∷ [])
 link_added old mid new places n c d one numbered same two =
@@ -144,9 +156,9 @@ damaged store c b place r block asked fails =
 pub shown_length : (store : Blocks) (job : JobMeaning) (rs : List (List Place)) (cs : List (List ℕ)) (ls : List Link) (t : ExpansionTable) (n : ℕ) → table_of store job rs cs ls ≡ t → n ≡ length ls → n ≡ length t.links
 shown_length store job rs cs ls t n shows is = is ∙ sym (length-map ls (pending_of store rs cs)) ∙ ap (λ (x : ExpansionTable). length x.links) shows
 
--- what is known of a block is known after a residual was added
-pub read_still : (old mid : ExpansionTable) (place : ℕ) (r : Read) → Adds old mid [] → IsReadAt old.store place r → IsReadAt mid.store place r
-read_still old mid place r adds is = subst (λ (s : Blocks). IsReadAt s place r) (sym adds.store) is
+-- a residual has its number
+pub has_number : (t : ExpansionTable) (n : ℕ) → n < length t.residuals → HasNumber t (residual_in t n) n
+has_number t n lt = slice_get-get_or t.residuals n [] lt
 
 -- the pair of a block whose links were added
 pub pair_read : (mid new : ExpansionTable) (place number from to : ℕ) (places : List Place) (r : Read) (barren : Bool) → IsReadAt mid.store place r → HasNumber mid places number → from ≡ length mid.links → to ≡ length new.links → AddsBlock mid new r.cid places barren
@@ -159,8 +171,79 @@ pub block_adds : (old new : ExpansionTable) (c : List ℕ) (places : List Place)
 block_adds old new c places true adds = ([], adds_to_same old new adds.1)
 block_adds old new c places false adds = (links_inside places 0 (value_of old.store c), adds)
 
-pub some_after : (a b c : ExpansionTable) → Adds a b [] → AddsSome b c → AddsSome a c
-some_after a b c one two = (two.0, adds_then a b c [] two.0 one two.1)
+pub some_after : (a b c : ExpansionTable) (links : List PendingLink) → Adds a b links → AddsSome b c → AddsSome a c
+some_after a b c links one two = (links ++ two.0, adds_then a b c links two.0 one two.1)
 
 pub some_same : (a b c : ExpansionTable) → AddsSome a b → c ≡ b → AddsSome a c
 some_same a b c some e = subst (AddsSome a) (sym e) some
+
+-- ---- what another table of the same job has
+
+-- one more of a part of a list
+pub range_more : {X : Type 0} (xs : List X) (from k : ℕ) (d : X) → from ≤ k → k < length xs → slice_range xs from (k + 1) ≡ slice_range xs from k ++ get_or xs k d ∷ []
+range_more {X = X} xs from k d le lt =
+    let n : (k + 1) - from ≡ (k - from) + 1 = omega arith in
+    let at : from + (k - from) ≡ k = omega arith in
+    ap (λ (m : ℕ). take m (drop from xs)) n
+    ∙ take_more (drop from xs) (k - from) d (let l = length-drop from xs in omega (arith, l, le, lt))
+    ∙ ap (λ (x : X). take (k - from) (drop from xs) ++ x ∷ []) (get_or-drop from xs (k - from) d ∙ ap (λ (m : ℕ). get_or xs m d) at)
+
+-- its link, with the number that its residual has here
+link_appended : (part old mid late new : ExpansionTable) (link number n : ℕ) (c d : List ℕ) → Adds old mid [] → late ≡ mid → HasNumber mid (residual_in part number) n → slice_get part.links link ≡ Some (waiting (residual_in part number) 0 c) → d ≡ c
+    → Adds late new (waiting (residual_in late n) 0 d ∷ []) → Adds old new (link_at part link ∷ [])
+link_appended part old mid late new link number n c d one same numbered at cid two =
+    adds_same old new _ _ (ap (λ (f : PendingLink). f ∷ []) (sym (get_or_from_slice_get part.links link (waiting (residual_in part number) 0 c) (waiting [] 0 []) at)))
+    (link_added old mid new (residual_in part number) n c d one numbered cid (subst (λ (t : ExpansionTable). Adds t new (waiting (residual_in t n) 0 d ∷ [])) same two))
+
+-- the same by a call that may fail
+link_tried : {T : Type 0} (part old mid late new : ExpansionTable) (link number n : ℕ) (c d : List ℕ) (r : Result T TableStop) → Adds old mid [] → late ≡ mid → HasNumber mid (residual_in part number) n
+    → slice_get part.links link ≡ Some (waiting (residual_in part number) 0 c) → d ≡ c → OnOk r (Adds late new (waiting (residual_in late n) 0 d ∷ [])) → OnErr r (new ≡ late) → AddsOrSome old new (link_at part link ∷ []) r
+link_tried part old mid late new link number n c d (Ok x) one same numbered at cid added kept = record { added = link_appended part old mid late new link number n c d one same numbered at cid added; err = tt }
+link_tried part old mid late new link number n c d (Err y) one same numbered at cid added kept = record { added = tt; err = ([], subst (λ (t : ExpansionTable). Adds old t []) (sym (kept ∙ same)) one) }
+
+-- a link to a block of the store
+pub stored_tried : {T : Type 0} (part old mid late new : ExpansionTable) (link number place pair n : ℕ) (places : List Place) (r : Result T TableStop) → IsTableOf part old → IsLinkAt part link (Stored number place pair) → Adds old mid [] → late ≡ mid
+    → places ≡ residual_in part number → HasNumber mid places n → OnOk r (Adds late new (waiting (residual_in late n) 0 (cid_at late.store place) ∷ [])) → OnErr r (new ≡ late) → AddsOrSome old new (link_at part link ∷ []) r
+stored_tried part old mid late new link number place pair n places r of is one same value numbered added kept =
+    let stores : late.store ≡ part.store = ap (λ (t : ExpansionTable). t.store) same ∙ one.store ∙ of.store in
+    link_tried part old mid late new link number n (cid_at part.store place) (cid_at late.store place) r one same (subst (λ (p : List Place). HasNumber mid p n) value numbered) is.2 (ap (λ (s : Blocks). cid_at s place) stores) added kept
+
+-- a link to any CID
+pub written_tried : {T : Type 0} (part old mid new : ExpansionTable) (link number n : ℕ) (c : List ℕ) (places : List Place) (r : Result T TableStop) → IsLinkAt part link (Written number c) → Adds old mid []
+    → places ≡ residual_in part number → HasNumber mid places n → OnOk r (Adds mid new (waiting (residual_in mid n) 0 c ∷ [])) → OnErr r (new ≡ mid) → AddsOrSome old new (link_at part link ∷ []) r
+written_tried part old mid new link number n c places r is one value numbered added kept =
+    link_tried part old mid mid new link number n c c r one refl (subst (λ (p : List Place). HasNumber mid p n) value numbered) is.1 refl added kept
+
+-- one more link of a list
+pub list_more : (part old mid new : ExpansionTable) (from k : ℕ) → from ≤ k → k < length part.links → Adds old mid (slice_range part.links from k) → Adds mid new (link_at part k ∷ []) → Adds old new (slice_range part.links from (k + 1))
+list_more part old mid new from k le lt before next =
+    adds_same old new _ _ (sym (range_more part.links from k (waiting [] 0 []) le lt)) (adds_then old mid new (slice_range part.links from k) (link_at part k ∷ []) before next)
+
+-- none so far
+pub list_none : (t : ExpansionTable) (links : List PendingLink) (from : ℕ) → Adds t t (slice_range links from from)
+list_none t links from =
+    let z : from - from ≡ 0 = omega arith in
+    adds_same t t [] (slice_range links from from) (sym (ap (λ (n : ℕ). take n (drop from links)) z)) (adds_nothing t)
+
+-- a table stays that of a job
+pub table_still : (other old new : ExpansionTable) (links : List PendingLink) → IsTableOf other old → Adds old new links → IsTableOf other new
+table_still other old new links of adds = record { store = adds.store ∙ of.store; job = adds.job ∙ of.job }
+
+-- the pair of another table, whose list was appended
+pub pair_appended : (part mid new : ExpansionTable) (number from to : ℕ) (p : Pair) → mid.store ≡ part.store → IsPair part p → HasNumber mid (residual_in part p.residual) number → from ≡ length mid.links → to ≡ length new.links
+    → Adds mid new (slice_range part.links p.from p.to) → IsPair new (record { place = p.place; from = from; to = to; residual = number; malformed = p.malformed; barren = p.barren })
+pair_appended part mid new number from to p same is numbered first last adds =
+    let links = slice_range part.links p.from p.to in
+    let store : new.store ≡ part.store = adds.store ∙ same in
+    let has : HasNumber new (residual_in part p.residual) number = number_kept mid new links (residual_in part p.residual) number adds numbered in
+    let more : length new.links ≡ length (mid.links ++ links) = ap length adds.added in
+    record {
+      residual = slice_get_within new.residuals number (residual_in part p.residual) has;
+      ordered = omega (arith, first, last, more, length-append mid.links links);
+      within = omega (arith, last);
+      links = λ live.
+          range_added mid.links links new.links from to adds.added first last ∙ is.links live
+          ∙ (λ i. links_inside (sym (get_or_from_slice_get new.residuals number (residual_in part p.residual) [] has) i) 0 (value_of (sym store i) (cid_at (sym store i) p.place)));
+      malformed = is.malformed ∙ ap (λ (s : Blocks). is_malformed s (cid_at s p.place)) (sym store);
+      barren = λ b. ap (λ (s : Blocks). is_barren s (cid_at s p.place)) store ∙ is.barren b;
+    }

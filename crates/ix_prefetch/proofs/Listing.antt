@@ -1,6 +1,6 @@
 -- The links that a walk over a table has still to visit.
 use Rattle.std.proofs.Common.{◌≡◌, ℕ, suc, ◌+◌, ◌-◌, ◌<◌, ◌≤◌, List, [], ◌∷◌, ◌++◌, length, map, reverse, get_or, take, drop, refl, sym, ◌∙◌, ap, subst, arith, length-append, append_assoc}
-use Rattle.std.specs.Prelude.{Option, Some, None, slice_get, All}
+use Rattle.std.specs.Prelude.{Some, All}
 use Rattle.std.specs.Global.{Vec}
 use Rattle.std.proofs.Math.Seq.{drop-cons, get_or-append_seam}
 use Rattle.std.proofs.Math.ListN.{get_or-append}
@@ -15,12 +15,12 @@ use Rattle.ix_prefetch.specs.declared.state.ListLeft.{ListLeft}
 use Rattle.ix_prefetch.specs.declared.state.Waits.{Waits}
 use Rattle.ix_prefetch.specs.declared.state.Waits.TheVariants.{List as Listing, Link as Waiting}
 use Rattle.ix_prefetch.specs.declared.state.Next.{Next}
-use Rattle.ix_prefetch.specs.declared.state.Next.TheVariants.{Listed, Root, Found}
+use Rattle.ix_prefetch.specs.declared.state.Next.TheVariants.{Listed, Found}
 use Rattle.ix_prefetch.specs.declared.state.TableState.{TableState}
 use Rattle.ix_prefetch.specs.Growing.{at_depth}
 use Rattle.ix_prefetch.specs.Link.{cid_at}
 use Rattle.ix_prefetch.specs.Expansions.{ExpansionTable, residual_in, IsLinkAt}
-use Rattle.ix_prefetch.specs.TableState.{rest_of, list_links, links_of, all_links_of, links_in, links_left, IsWaiting, IsWithin, next_pending, IsNextLink, PutsBefore, IsFirst, IsNextRoot}
+use Rattle.ix_prefetch.specs.TableState.{rest_of, list_links, links_of, all_links_of, links_in, links_left, IsWaiting, IsWithin, next_pending, IsNextLink, PutsBefore, IsFirst}
 
 -- ---- a list
 
@@ -110,10 +110,6 @@ nothing_waits t at ws empty none =
     ap (λ (fs : List PendingLink). fs ++ all_links_of t (reverse ws)) (list_empty t at empty) ∙ ap (λ (xs : List Waits). all_links_of t (reverse xs)) none
 
 -- ---- links before those that wait
-
--- nothing is put there
-pub puts_nothing : (t : ExpansionTable) (s : TableState) → IsWithin t s → PutsBefore t [] s s
-puts_nothing t s within = record { before = refl; within = within; expanded = refl; roots = refl }
 
 -- some of the links were put before what waits; these are still to be put before them
 pub record ArePut (t : ExpansionTable) (all links : List PendingLink) (old s : TableState) : Type 0 where

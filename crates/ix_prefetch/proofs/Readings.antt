@@ -1,5 +1,5 @@
 -- What is read of a block of the store.
-use Rattle.std.proofs.Common.{◌≡◌, ℕ, Bool, true, false, List, map, slice_get, refl, sym, ◌∙◌, ap, subst}
+use Rattle.std.proofs.Common.{◌≡◌, ℕ, true, false, List, map, slice_get, refl, sym, ◌∙◌, ap, subst}
 use Rattle.std.specs.Prelude.{Option, Some, None, Result, Ok, Err, IfSome, is_none}
 use Rattle.std.proofs.lemmas.Bool.{false≢true}
 use Rattle.ix_cid.specs.Cid.{parts_of}

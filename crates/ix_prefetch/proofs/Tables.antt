@@ -1,6 +1,6 @@
 -- What a table keeps, when something is added to it.
 use Rattle.std.proofs.Common.{◌≡◌, ℕ, suc, ◌+◌, ◌-◌, ◌<◌, ◌≤◌, Bool, true, false, List, [], ◌∷◌, ◌++◌, length, map, get_or, take, drop, refl, sym, ◌∙◌, ap, subst, arith, length-append, length-drop, append-nil}
-use Rattle.std.specs.Prelude.{Option, Some, None, bytes_eq, if◌then◌else◌, slice_get, slice_range, All, option_map}
+use Rattle.std.specs.Prelude.{Some, bytes_eq, if◌then◌else◌, slice_get, slice_range, All, option_map}
 use Rattle.std.specs.Bool.{OnTrue}
 use Rattle.std.proofs.Math.ListN.{get_or-append}
 use Rattle.std.proofs.Math.Seq.{get_or-append_seam}
@@ -22,7 +22,7 @@ use Rattle.ix_prefetch.specs.declared.link.Link.{Link}
 use Rattle.ix_prefetch.specs.declared.link.Link.TheVariants.{Stored, Written}
 use Rattle.ix_prefetch.specs.declared.link.Pair.{Pair}
 use Rattle.ix_prefetch.specs.Link.{cid_at, pending_of, IsLink}
-use Rattle.ix_prefetch.specs.Expansions.{ExpansionTable, IsMet, residual_in, HasNumber, IsPair, table_of, AreExpansions}
+use Rattle.ix_prefetch.specs.Expansions.{ExpansionTable, IsMet, HasNumber, IsPair, table_of, AreExpansions}
 use Rattle.ix_prefetch.specs.Growing.{Adds}
 
 -- ---- CIDs by place

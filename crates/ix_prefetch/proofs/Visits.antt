@@ -1,6 +1,6 @@
 -- Visiting a link, by a walk over a table.
-use Rattle.std.proofs.Common.{◌≡◌, ℕ, ◌+◌, ◌-◌, ◌<◌, ◌≤◌, Bool, true, false, List, [], ◌∷◌, ◌++◌, length, map, refl, sym, ◌∙◌, ap, subst, append_assoc, arith}
-use Rattle.std.specs.Prelude.{Option, Some, None, Ok, Err, IfSome, is_some, is_none, ◌||◌, if◌then◌else◌, slice_range}
+use Rattle.std.proofs.Common.{◌≡◌, ℕ, ◌+◌, ◌<◌, ◌≤◌, Bool, true, false, List, [], ◌∷◌, ◌++◌, length, map, refl, sym, ◌∙◌, ap, subst, append_assoc, arith}
+use Rattle.std.specs.Prelude.{Option, Some, None, Ok, IfSome, is_some, if◌then◌else◌}
 use Rattle.ix_cbor.specs.Data.{Data}
 use Rattle.ix_selector.specs.Pattern.{Pattern}
 use Rattle.ix_selector.specs.Residual.{Place}
@@ -8,31 +8,28 @@ use Rattle.ix_store.specs.Store.{Blocks, position_of, value_of}
 use Rattle.ix_walk.specs.declared.subtree.PendingLink.{PendingLink}
 use Rattle.ix_walk.specs.declared.visit.Visit.{Visit}
 use Rattle.ix_walk.specs.declared.visited_set.VisitedSet.{VisitedSet}
-use Rattle.ix_walk.specs.declared.fault.WalkStop.TheVariants.{Limit}
-use Rattle.ix_walk.specs.Once.{is_sound, sound_value}
-use Rattle.ix_walk.specs.Arriving.{Goes}
-use Rattle.ix_walk.specs.JobMeaning.{JobMeaning}
-use Rattle.ix_walk.specs.Visits.{is_malformed, visit_of, whole_walk}
-use Rattle.ix_walk.specs.VisitedSet.{has_expanded, expanded_of, going_of}
-use Rattle.ix_walk.specs.Walking.{arrival, waiting, Going, is_barren, data_inside, expanded_after, links_inside, root_link, walk_left, NoDeeper}
-use Rattle.ix_walk.specs.WalkLeft.{GivesNext, nothing_left}
+use Rattle.ix_walk.specs.Once.{is_sound}
+use Rattle.ix_walk.specs.Arriving.{Goes, IsValue}
+use Rattle.ix_walk.specs.Visits.{is_malformed, whole_walk}
+use Rattle.ix_walk.specs.VisitedSet.{going_of}
+use Rattle.ix_walk.specs.Walking.{waiting, Going, data_inside, links_inside, root_link, walk_left, NoDeeper}
+use Rattle.ix_walk.specs.WalkLeft.{GivesNext}
 use Rattle.ix_walk.proofs.Reached.{all_append, all_inside}
 use Rattle.ix_walk.proofs.Starts.{IsFollowed, expanded_at_start, arrives_all}
-use Rattle.ix_walk.proofs.Takes.{limit_with, end_with, visit_with, deeper}
-use Rattle.ix_lists.specs.Expansion.{IsBlock, AreLinksIn}
+use Rattle.ix_walk.proofs.Takes.{visit_with, deeper}
+use Rattle.ix_lists.specs.Expansion.{IsBlock}
 use Rattle.ix_prefetch.specs.declared.link.Pair.{Pair}
-use Rattle.ix_prefetch.specs.declared.state.ListLeft.{ListLeft}
 use Rattle.ix_prefetch.specs.declared.state.Next.{Next}
 use Rattle.ix_prefetch.specs.declared.state.TableState.{TableState}
 use Rattle.ix_prefetch.specs.Growing.{at_depth}
 use Rattle.ix_prefetch.specs.Link.{cid_at}
 use Rattle.ix_prefetch.specs.Expansions.{ExpansionTable, residual_in}
-use Rattle.ix_prefetch.specs.TableState.{list_links, links_in, links_left, IsWithin, next_pending, IsNextLink, PutsBefore, PutsLinks, IsVisited}
+use Rattle.ix_prefetch.specs.TableState.{list_links, links_in, links_left, IsWithin, next_pending, IsNextLink, PutsBefore, IsVisited}
 use Rattle.ix_prefetch.specs.TableWalk.{left_of_table_walk, IsWalking}
 use Rattle.ix_prefetch.specs.Visiting.{IsUsable, EntersList, IsVisitAt, PutsInside}
 use Rattle.ix_prefetch.proofs.Resting.{moved_below}
 use Rattle.ix_prefetch.proofs.Tables.{named}
-use Rattle.ix_prefetch.proofs.Listing.{nothing_waits, puts_nothing}
+use Rattle.ix_prefetch.proofs.Listing.{nothing_waits}
 
 -- ---- whether the links of a list are visited
 
@@ -53,6 +50,11 @@ enters_by store places cid old new (Some b) goes = record {
   inside = λ depth. let v = (goes depth).inside in v.1 ∙ sym (inside_value store (going_of store old) (waiting places depth cid) v.0 v.1);
   expanded = λ depth. (goes depth).expanded;
 }
+
+-- the bytes of a value are those of a block
+pub block_valued : (value : Option Data) (o : Option (List ℕ)) → IsValue value o → IfSome o (λ b. IsBlock b)
+block_valued value None is = tt
+block_valued value (Some b) is = (is.0, is.2)
 
 -- ---- the visit of a link
 
@@ -166,10 +168,3 @@ starts t number b s is once none at waits same =
     ∙ ap (λ (fs : List PendingLink). walk_left t.store number t.job.limit 0 (expanded_at_start t.store b) fs false)
     (ap (λ (fs : List PendingLink). fs ++ map (root_link t.job.selector) s.roots.now) (nothing_waits t s.at s.waiting.items (omega (arith, at)) waits) ∙ ap (map (root_link t.job.selector)) same)
     ∙ arrives_all t.store number t.job b is once
-
--- ---- the block that is expanded
-
--- the block that is expanded spells data
-pub expanded_block : (had has : Option Going) (store : Blocks) (f : PendingLink) (o : Option (List ℕ)) → Goes store f had o has → IfSome o (λ b. IsBlock b)
-expanded_block had has store f None goes = tt
-expanded_block had has store f (Some b) goes = (goes.inside.0, goes.inside.2)

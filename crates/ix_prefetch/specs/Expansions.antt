@@ -1,5 +1,5 @@
 -- A table of the expansions of one job over one store.
-use Rattle.std.specs.Prelude.{◌≡◌, ℕ, ◌≤◌, ◌<◌, true, false, List, [], ◌∷◌, length, map, All, slice_get, slice_index_or, slice_range, Some, refl}
+use Rattle.std.specs.Prelude.{◌≡◌, ℕ, ◌≤◌, ◌<◌, true, false, List, [], length, map, All, slice_get, slice_index_or, slice_range, Some, refl}
 use Rattle.std.specs.Coded.{Coded, code_by, coded×, coded_ℕ, coded_list}
 use Rattle.ix_selector.specs.Enters.{Path}
 use Rattle.ix_selector.specs.Pattern.{Pattern, IsSelector}
@@ -63,6 +63,10 @@ pub record IsPairOf (t : ExpansionTable) (place residual : ℕ) (p : Pair) : Typ
 abbrev pub IsLinkAt : ExpansionTable → ℕ → LinkAt → Type 0
 IsLinkAt t number (Stored residual place pair) = (residual < length t.residuals) × IsHashedAt t.store place × (slice_get t.links number ≡ Some (waiting (residual_in t residual) 0 (cid_at t.store place)))
 IsLinkAt t number (Written residual cid) = (residual < length t.residuals) × (slice_get t.links number ≡ Some (waiting (residual_in t residual) 0 cid))
+
+-- the link with this number, without its depth
+abbrev pub link_at : ExpansionTable → ℕ → PendingLink
+link_at t number = slice_index_or t.links number (waiting [] 0 [])
 
 -- a table is of the job and the store of another
 pub record IsTableOf (t other : ExpansionTable) : Type 0 where

@@ -5,3 +5,4 @@ pub mod Growing
 pub mod TableState
 pub mod Visiting
 pub mod TableWalk
+pub mod Levels

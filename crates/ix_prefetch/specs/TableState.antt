@@ -1,15 +1,11 @@
 -- What a walk over a table has still to visit.
-use Rattle.std.specs.Prelude.{◌≡◌, ℕ, ◌+◌, ◌<◌, ◌≤◌, Bool, false, List, [], ◌∷◌, ◌++◌, length, map, reverse, slice_range, Option, Some, None, IfSome, IfNone, option_map, All}
-use Rattle.ix_selector.specs.Residual.{Place}
-use Rattle.ix_store.specs.Store.{Blocks, value_of}
+use Rattle.std.specs.Prelude.{◌≡◌, ℕ, ◌+◌, ◌<◌, ◌≤◌, List, [], ◌∷◌, ◌++◌, length, map, reverse, slice_range, Option, Some, None, IfSome, IfNone, option_map, All}
 use Rattle.ix_walk.specs.declared.subtree.PendingLink.{PendingLink}
 use Rattle.ix_walk.specs.declared.visit.Visit.{Visit}
 use Rattle.ix_walk.specs.Visits.{visit_of}
 use Rattle.ix_walk.specs.VisitedSet.{going_of}
-use Rattle.ix_walk.specs.Walking.{waiting, arrival, Going, data_inside, expanded_after, links_inside, root_link, found_links}
-use Rattle.ix_prefetch.specs.declared.link.LinkAt.{LinkAt}
+use Rattle.ix_walk.specs.Walking.{waiting, arrival, data_inside, expanded_after, links_inside, root_link, found_links}
 use Rattle.ix_prefetch.specs.declared.link.LinkAt.TheVariants.{Stored, Written}
-use Rattle.ix_prefetch.specs.declared.link.Pair.{Pair}
 use Rattle.ix_prefetch.specs.declared.state.ListLeft.{ListLeft}
 use Rattle.ix_prefetch.specs.declared.state.Waits.{Waits}
 use Rattle.ix_prefetch.specs.declared.state.Waits.TheVariants.{List as Listing, Link as Waiting}
@@ -18,7 +14,7 @@ use Rattle.ix_prefetch.specs.declared.state.Next.TheVariants.{Listed, Root, Foun
 use Rattle.ix_prefetch.specs.declared.state.TableState.{TableState}
 use Rattle.ix_prefetch.specs.Growing.{at_depth}
 use Rattle.ix_prefetch.specs.Link.{cid_at, IsHashedAt}
-use Rattle.ix_prefetch.specs.Expansions.{ExpansionTable, residual_in, IsPair}
+use Rattle.ix_prefetch.specs.Expansions.{ExpansionTable, residual_in}
 
 -- a list without its first link
 abbrev pub rest_of : ListLeft → ListLeft

@@ -1,5 +1,5 @@
 -- Visiting a link, by a walk over a table.
-use Rattle.std.specs.Prelude.{◌≡◌, ℕ, Bool, true, false, List, Option, Some, None, if◌then◌else◌}
+use Rattle.std.specs.Prelude.{◌≡◌, ℕ, Bool, false, List, Option, Some, None, if◌then◌else◌}
 use Rattle.ix_cbor.specs.Data.{Data}
 use Rattle.ix_selector.specs.Residual.{Place}
 use Rattle.ix_store.specs.Store.{Blocks, value_of}

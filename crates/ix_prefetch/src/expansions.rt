@@ -1,17 +1,17 @@
 //! The table of expansions.
 
-ghost use Rattle.std.specs.Prelude.{◌≡◌, ◌<◌, [], ◌∷◌, IfOk, IfSome, OnOk, OnErr, length, map, All};
+ghost use Rattle.std.specs.Prelude.{◌≡◌, ◌<◌, [], ◌∷◌, IfOk, IfSome, OnOk, OnErr, length, map, slice_range, All};
 ghost use Rattle.std.specs.Bool.{OnTrue};
 ghost use Rattle.ix_selector.specs.Behind.{residual_of};
 ghost use Rattle.ix_walk.specs.Walking.{waiting};
 ghost use Rattle.ix_prefetch.specs.Link.{cid_at, IsHashedAt};
-ghost use Rattle.ix_prefetch.specs.Reading.{IsBlockAt, IsReadAt};
-ghost use Rattle.ix_prefetch.specs.Expansions.{IsMet, residual_in, HasNumber, IsLinkAt, IsPair, IsPairOf};
-ghost use Rattle.ix_prefetch.specs.Growing.{Adds, AddsSome, AddsBlock, at_depth};
+ghost use Rattle.ix_prefetch.specs.Expansions.{IsMet, residual_in, HasNumber, IsLinkAt, IsPair, IsPairOf, IsTableOf, link_at};
+ghost use Rattle.ix_prefetch.specs.Growing.{Adds, AddsSome, AddsOrSome, AddsBlockOrSome, AddsPair, IsTaskBlock, IsTaskRead, IsPairBeside, at_depth};
 
 use crate::link::{Link, LinkAt, Pair};
-use crate::pair_index::{NO_PAIR, PairIndex};
+use crate::pair_index::{NO_PAIR, NextLevel, PairIndex, Task};
 use crate::reading::{Block, Read, read_at, stored_at};
+use crate::stop::TableStop;
 use ix_cid::CidRef;
 use ix_lists::expand;
 use ix_selector::{Residual, law};
@@ -23,6 +23,15 @@ use std::marker::Model;
 
 // How many residuals have a number.
 const MOST_RESIDUALS: usize = u16::MAX as usize;
+
+// About how many bytes a link, a pair, a CID and a residual take.
+const LINK_BYTES: usize = 12;
+
+const PAIR_BYTES: usize = 16;
+
+const CID_BYTES: usize = 32;
+
+const RESIDUAL_BYTES: usize = 256;
 
 /// Expansions of one job over one store, as many as were made.
 pub struct Expansions<'a> {
@@ -120,6 +129,16 @@ impl<'a> Expansions<'a> {
         &self.residuals[number as usize]
     }
 
+    /// Returns the residual of this number, if there is one.
+    pub(crate) fn residual_at(&self, number: u16) -> Option<&Residual<'a>>
+        ensures { IfSome result (λ r. IsMet self.now.job.selector r.now) }
+    {
+        if number as usize >= self.residuals.len() {
+            return None;
+        }
+        Some(&self.residuals[number as usize])
+    }
+
     /// The number of the residual of a root.
     pub(crate) fn root_number(&self) -> u16
         ensures { HasNumber self.now (residual_of self.now.job.selector) result }
@@ -156,14 +175,14 @@ impl<'a> Expansions<'a> {
     }
 
     // Adds a residual, and returns its number.
-    fn add_residual(&mut self, alloc: Global, residual: &Residual<'a>) -> Result<u16, AllocError>
+    fn add_residual(&mut self, alloc: Global, residual: &Residual<'a>) -> Result<u16, TableStop>
         requires { IsMet self.old.job.selector residual.now }
         ensures adds { Adds self.old self.new [] }
         ensures number { IfOk result (HasNumber self.new residual.now) }
     {
         let number = self.residuals.len();
         if number >= MOST_RESIDUALS {
-            return Err(AllocError);
+            return Err(TableStop::Full);
         }
         let number = number as u16;
         self.numbers.insert(residual.try_clone(alloc)?, number)?;
@@ -176,7 +195,7 @@ impl<'a> Expansions<'a> {
         &mut self,
         alloc: Global,
         residual: &Residual<'a>,
-    ) -> Result<u16, AllocError>
+    ) -> Result<u16, TableStop>
         requires { IsMet self.old.job.selector residual.now }
         ensures adds { Adds self.old self.new [] }
         ensures number { IfOk result (HasNumber self.new residual.now) }
@@ -190,7 +209,7 @@ impl<'a> Expansions<'a> {
     // ---- links
 
     // Appends a link to a block of the store, whose pair may have this number.
-    fn push_stored(&mut self, residual: u16, place: u32, pair: u32) -> Result<(), AllocError>
+    fn push_stored(&mut self, residual: u16, place: u32, pair: u32) -> Result<(), TableStop>
         requires residual { residual < length self.old.residuals }
         requires place { IsHashedAt self.old.store place }
         ensures added { OnOk result (Adds self.old self.new
@@ -206,7 +225,7 @@ impl<'a> Expansions<'a> {
     }
 
     // Appends a link to any CID.
-    fn push_written(&mut self, residual: u16, cid: CidRef<'a>) -> Result<(), AllocError>
+    fn push_written(&mut self, residual: u16, cid: CidRef<'a>) -> Result<(), TableStop>
         requires { residual < length self.old.residuals }
         ensures added { OnOk result (Adds self.old self.new
             (waiting (residual_in self.old residual) 0 cid.entry ∷ [])) }
@@ -214,7 +233,7 @@ impl<'a> Expansions<'a> {
     {
         let number = self.cids.len();
         if number >= u32::MAX as usize {
-            return Err(AllocError);
+            return Err(TableStop::Full);
         }
         let number = number as u32;
         self.cids.push(cid)?;
@@ -225,32 +244,26 @@ impl<'a> Expansions<'a> {
         Ok(())
     }
 
-    // Appends a link to a CID with a residual.
-    fn push_link(
-        &mut self,
-        alloc: Global,
-        through: &Residual<'a>,
-        cid: &CidRef<'a>,
-    ) -> Result<(), AllocError>
-        requires { IsMet self.old.job.selector through.now }
-        ensures added { OnOk result (Adds self.old self.new (waiting through.now 0 cid.now ∷ [])) }
+    // Appends a link without its depth.
+    fn push_link(&mut self, alloc: Global, link: &PendingLink<'a, 'a>) -> Result<(), TableStop>
+        requires { IsMet self.old.job.selector link.now.residual }
+        ensures added { OnOk result (Adds self.old self.new (at_depth 0 link.now ∷ [])) }
         ensures err { OnErr result (Adds self.old self.new []) }
     {
-        let number = self.number_of(alloc, through)?;
-        match stored_at(alloc, self.store, cid)? {
+        let number = self.number_of(alloc, &link.residual)?;
+        match stored_at(alloc, self.store, &link.cid)? {
             Some(at) => self.push_stored(number, at.place, at.guess()),
-            None => self.push_written(number, same_cid(cid)),
+            None => self.push_written(number, same_cid(&link.cid)),
         }
     }
 
     // Appends links, each without its depth.
-    fn push_links(&mut self, alloc: Global, links: &[PendingLink<'a, 'a>]) -> Result<(), AllocError>
+    fn push_links(&mut self, alloc: Global, links: &[PendingLink<'a, 'a>]) -> Result<(), TableStop>
         requires { All (λ f. IsMet self.old.job.selector f.residual) links.now }
-        ensures added { OnOk result (Adds self.old self.new (map (at_depth 0) links.now)) }
-        ensures err { OnErr result ((links : _) × Adds self.old self.new links) }
+        ensures { AddsOrSome self.old self.new (map (at_depth 0) links.now) result }
     {
         for link in links.iter() {
-            self.push_link(alloc, &link.residual, &link.cid)?;
+            self.push_link(alloc, link)?;
         }
         Ok(())
     }
@@ -305,45 +318,29 @@ impl<'a> Expansions<'a> {
         }
     }
 
-    // Adds a pair.
-    fn push_pair(&mut self, pair: Pair) -> Result<(), AllocError>
+    // Adds a pair. The index has its number where it was scheduled.
+    fn push_pair(&mut self, pair: Pair) -> Result<(), TableStop>
         requires { IsPair self.old pair }
         ensures { self.new ≡ self.old }
     {
-        let number = self.pairs.len();
-        if number >= NO_PAIR as usize {
-            return Err(AllocError);
-        }
-        self.index
-            .insert(pair.place as usize, pair.residual, number as u32)?;
         self.pairs.push(pair)?;
         Ok(())
     }
 
-    // Appends the links in a block that a residual enters. Returns whether nothing below the block is
-    // visited by the job's walk: then there may be none.
-    fn push_block(
-        &mut self,
-        alloc: Global,
-        entering: &Residual<'a>,
-        block: Block<'a>,
-    ) -> Result<bool, AllocError>
-        requires met { IsMet self.old.job.selector entering.now }
-        requires block { IsBlockAt self.old.store block.place block.cid block.bytes }
-        ensures block { IfOk result (AddsBlock self.old self.new block.entry.cid entering.now) }
-        ensures err { OnErr result (AddsSome self.old self.new) }
+    // Appends the links in the block of a task that its residual enters. Returns whether nothing below
+    // the block is visited by the job's walk: then there may be none.
+    fn push_block(&mut self, alloc: Global, task: Task, block: Block<'a>) -> Result<bool, TableStop>
+        requires { IsTaskBlock self.old task block }
+        ensures { AddsBlockOrSome self.old self.new block.entry.cid (residual_in self.old task.residual) result }
     {
-        let Block {
-            place,
-            cid: _,
-            bytes,
-        } = block;
+        let Block { cid: _, bytes } = block;
         let once = self.job.visits_links_once();
         if once && !has_tag(bytes.bytes()) {
             return Ok(true);
         }
-        let links = expand(alloc, entering.try_clone(alloc)?, bytes, 0)?;
-        if once && !links.is_empty() && !self.store.hash_matches(place) {
+        let residual = self.residual(task.residual).try_clone(alloc)?;
+        let links = expand(alloc, residual, bytes, 0)?;
+        if once && !links.is_empty() && !self.store.hash_matches(task.place as usize) {
             return Ok(true);
         }
         self.push_links(alloc, links.as_slice())?;
@@ -351,17 +348,9 @@ impl<'a> Expansions<'a> {
     }
 
     // Does the same for a block that may not be DAG-CBOR: then there is no link.
-    fn push_bytes(
-        &mut self,
-        alloc: Global,
-        place: u32,
-        entering: &Residual<'a>,
-        read: Read<'a>,
-    ) -> Result<bool, AllocError>
-        requires met { IsMet self.old.job.selector entering.now }
-        requires read { IsReadAt self.old.store place read }
-        ensures block { IfOk result (AddsBlock self.old self.new read.entry.cid entering.now) }
-        ensures err { OnErr result (AddsSome self.old self.new) }
+    fn push_bytes(&mut self, alloc: Global, task: Task, read: Read<'a>) -> Result<bool, TableStop>
+        requires { IsTaskRead self.old task read }
+        ensures { AddsBlockOrSome self.old self.new read.entry.cid (residual_in self.old task.residual) result }
     {
         let Read {
             cid,
@@ -371,75 +360,187 @@ impl<'a> Expansions<'a> {
         let Some(bytes) = bytes else {
             return Ok(false);
         };
-        let block = Block {
-            place: place as usize,
-            cid,
-            bytes,
-        };
-        self.push_block(alloc, entering, block)
+        self.push_block(alloc, task, Block { cid, bytes })
     }
 
-    // Adds the expansion of what was read at a place.
-    fn push_read(
-        &mut self,
-        alloc: Global,
-        place: u32,
-        by: &Residual<'a>,
-        read: Read<'a>,
-    ) -> Result<(), AllocError>
-        requires met { IsMet self.old.job.selector by.now }
-        requires read { IsReadAt self.old.store place read }
-        ensures { (links : _) × Adds self.old self.new links }
+    // Appends the list of a task, at whose place this was read. Returns its pair.
+    fn push_read(&mut self, alloc: Global, task: Task, read: Read<'a>) -> Result<Pair, TableStop>
+        requires { IsTaskRead self.old task read }
+        ensures { AddsPair self.old self.new result }
     {
         let malformed = read.malformed;
-        let number = self.number_of(alloc, by)?;
         let from = self.links.len();
-        let barren = self.push_bytes(alloc, place, by, read)?;
+        let barren = self.push_bytes(alloc, task, read)?;
         let Some((from, to)) = bounds(from, self.links.len()) else {
-            return Err(AllocError);
+            return Err(TableStop::Full);
         };
-        self.push_pair(Pair {
-            place,
+        Ok(Pair {
+            place: task.place,
             from,
             to,
-            residual: number,
+            residual: task.residual,
             malformed,
             barren,
         })
     }
 
-    /// Expands the block at a place with a residual, and adds the expansion, if the CID there names the
-    /// block by its hash and its codec is known. If memory runs out, what the table has is as true as
-    /// before.
-    pub(crate) fn add(
+    // ---- levels
+
+    /// Expands the block of a task, whose residual has its number in another table of the same job,
+    /// and adds the expansion, if the CID at its place names the block by its hash and its codec is
+    /// known. After an error what the table has is as true as before.
+    pub(crate) fn add_task(
         &mut self,
         alloc: Global,
-        place: u32,
-        by: &Residual<'a>,
-    ) -> Result<(), AllocError>
-        requires { IsMet self.old.job.selector by.now }
+        numbers: &Expansions<'a>,
+        task: Task,
+    ) -> Result<(), TableStop>
+        requires { IsTableOf numbers.now self.old }
         ensures { AddsSome self.old self.new }
     {
+        let Some(residual) = numbers.residual_at(task.residual) else {
+            return Ok(());
+        };
+        let residual = self.number_of(alloc, residual)?;
+        let place = task.place;
         match read_at(alloc, self.store, place as usize)? {
-            Some(read) => self.push_read(alloc, place, by, read),
+            Some(read) => {
+                let pair = self.push_read(alloc, Task { place, residual }, read)?;
+                self.push_pair(pair)
+            }
             None => Ok(()),
         }
     }
 
-    /// Does the same with the residual of this number, if there is one.
-    pub(crate) fn add_numbered(
+    // Appends a link of another table of the same job.
+    fn append_link(
         &mut self,
         alloc: Global,
-        place: u32,
-        number: u16,
-    ) -> Result<(), AllocError>
+        part: &Expansions<'a>,
+        link: u32,
+        next: &mut NextLevel,
+    ) -> Result<(), TableStop>
+        requires table { IsTableOf part.now self.old }
+        requires link { link < length part.now.links }
+        ensures { AddsOrSome self.old self.new (link_at part.now link ∷ []) result }
+    {
+        match part.link(link) {
+            LinkAt::Stored {
+                residual,
+                place,
+                pair,
+            } => {
+                let residual = self.number_of(alloc, part.residual(residual))?;
+                let pair = self.index.schedule(Task { place, residual }, pair, next)?;
+                self.push_stored(residual, place, pair)
+            }
+            LinkAt::Written { residual, cid } => {
+                let residual = self.number_of(alloc, part.residual(residual))?;
+                self.push_written(residual, cid)
+            }
+        }
+    }
+
+    // Appends the list of a pair of another table of the same job.
+    fn append_list(
+        &mut self,
+        alloc: Global,
+        part: &Expansions<'a>,
+        pair: Pair,
+        next: &mut NextLevel,
+    ) -> Result<(), TableStop>
+        requires { IsPairBeside self.old part.now pair }
+        ensures { AddsOrSome self.old self.new (slice_range part.now.links pair.from pair.to) result }
+    {
+        for link in pair.from..pair.to {
+            self.append_link(alloc, part, link, next)?;
+        }
+        Ok(())
+    }
+
+    // Appends the same list. Returns the pair that it has here.
+    fn append_pair(
+        &mut self,
+        alloc: Global,
+        part: &Expansions<'a>,
+        pair: Pair,
+        next: &mut NextLevel,
+    ) -> Result<Pair, TableStop>
+        requires { IsPairBeside self.old part.now pair }
+        ensures { AddsPair self.old self.new result }
+    {
+        let residual = self.number_of(alloc, part.residual(pair.residual))?;
+        let from = self.links.len();
+        self.append_list(alloc, part, pair, next)?;
+        let Some((from, to)) = bounds(from, self.links.len()) else {
+            return Err(TableStop::Full);
+        };
+        Ok(Pair {
+            place: pair.place,
+            from,
+            to,
+            residual,
+            malformed: pair.malformed,
+            barren: pair.barren,
+        })
+    }
+
+    /// Adds the expansion with this number in another table of the same job, and puts the pairs of its
+    /// links that aren't known into the next level. If there is no such expansion, it stops as full.
+    pub(crate) fn append(
+        &mut self,
+        alloc: Global,
+        part: &Expansions<'a>,
+        number: usize,
+        next: &mut NextLevel,
+    ) -> Result<(), TableStop>
+        requires { IsTableOf part.now self.old }
         ensures { AddsSome self.old self.new }
     {
-        if number as usize >= self.residuals.len() {
-            return Ok(());
+        let Some(pair) = part.numbered_pair(number) else {
+            return Err(TableStop::Full);
+        };
+        let pair = self.append_pair(alloc, part, pair, next)?;
+        self.push_pair(pair)
+    }
+
+    // Returns the pair with this number.
+    fn numbered_pair(&self, number: usize) -> Option<Pair>
+        ensures { IfSome result (IsPair self.now) }
+    {
+        self.pairs.get(number).copied()
+    }
+
+    /// The level after one of so many pairs, which are not added yet: nothing is in it.
+    pub(crate) fn next_level(&self, alloc: Global, pairs: usize) -> NextLevel {
+        NextLevel {
+            tasks: Vec::new(alloc),
+            first: self.pairs.len().saturating_add(pairs),
+            most: self.job.limit(),
         }
-        let residual = self.residuals[number as usize].try_clone(alloc)?;
-        self.add(alloc, place, &residual)
+    }
+
+    /// The first level: the blocks of the roots.
+    pub(crate) fn root_level(&mut self, alloc: Global) -> Result<NextLevel, AllocError>
+        ensures { self.new ≡ self.old }
+    {
+        let mut level = self.next_level(alloc, 0);
+        self.index
+            .schedule_roots(alloc, self.store, self.job.roots(), &mut level)?;
+        Ok(level)
+    }
+
+    /// About how many bytes it takes.
+    pub(crate) fn bytes(&self) -> usize {
+        let links = self.links.len().saturating_mul(LINK_BYTES);
+        let pairs = self.pairs.len().saturating_mul(PAIR_BYTES);
+        let cids = self.cids.len().saturating_mul(CID_BYTES);
+        let residuals = self.residuals.len().saturating_mul(RESIDUAL_BYTES);
+        links
+            .saturating_add(pairs)
+            .saturating_add(cids)
+            .saturating_add(residuals)
+            .saturating_add(self.index.bytes())
     }
 }
 

@@ -40,10 +40,9 @@ pub(crate) struct Read<'a> {
     pub malformed: bool,
 }
 
-/// A DAG-CBOR block: its place, its CID and its bytes.
+/// A DAG-CBOR block: its CID and its bytes.
 #[derive(Drop)]
 pub(crate) struct Block<'a> {
-    pub place: usize,
     pub cid: Cid,
     pub bytes: Cursor<'a>,
 }

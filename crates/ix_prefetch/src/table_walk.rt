@@ -14,7 +14,7 @@ use std::marker::Model;
 
 // Returns the next visit of a walk that has returned `seq` visits.
 fn next_visit<'a>(
-    visiting: &Visiting<'a>,
+    visiting: &Visiting<'_, 'a>,
     state: &mut TableState<'a>,
 ) -> Result<Option<Visit>, WalkStop>
     requires { IsWalking visiting.now.table.now visiting.now.seq state.old }
@@ -34,9 +34,9 @@ fn next_visit<'a>(
 
 /// An iterator over the visits of a table's job, followed by `Limit` if there are more: the same as
 /// `Walk`.
-pub struct TableWalk<'a> {
+pub struct TableWalk<'t, 'a> {
     alloc: Global,
-    table: &'a Expansions<'a>,
+    table: &'t Expansions<'a>,
     number: u32,
     given: u32,
     state: TableState<'a>,
@@ -44,7 +44,7 @@ pub struct TableWalk<'a> {
 }
 
 // Written by hand: a derived drop is inlined in each function that drops one, at each of its exits.
-impl<'a> Drop for TableWalk<'a> {
+impl<'t, 'a> Drop for TableWalk<'t, 'a> {
     fn drop(self) {
         let TableWalk {
             alloc: _,
@@ -58,7 +58,7 @@ impl<'a> Drop for TableWalk<'a> {
     }
 }
 
-impl<'a> Model for TableWalk<'a> {
+impl<'t, 'a> Model for TableWalk<'t, 'a> {
     ghost use Rattle.ix_walk.specs.WalkLeft.{WalkLeft};
 
     ghost Value = { WalkLeft };
@@ -70,15 +70,15 @@ impl<'a> Model for TableWalk<'a> {
     ghost invariant = { λ w. IsWalking w.table.now w.given w.state };
 }
 
-impl<'a> TableWalk<'a> {
+impl<'t, 'a> TableWalk<'t, 'a> {
     ghost use Rattle.ix_walk.specs.Visits.{whole_walk};
 
     /// Returns the walk of the job of a table, with this number.
     pub fn new(
         alloc: Global,
-        table: &'a Expansions<'a>,
+        table: &'t Expansions<'a>,
         number: u32,
-    ) -> Result<TableWalk<'a>, AllocError>
+    ) -> Result<TableWalk<'t, 'a>, AllocError>
         ensures { IfOk result (λ w. w ≡ whole_walk table.now.store number table.now.job) }
     {
         let job = table.job();
@@ -108,7 +108,7 @@ impl<'a> TableWalk<'a> {
     }
 }
 
-impl<'a> Iterator for TableWalk<'a> {
+impl<'t, 'a> Iterator for TableWalk<'t, 'a> {
     type Item = Result<Visit, WalkStop>;
 
     ghost use Rattle.std.specs.Iterator.{at_most};

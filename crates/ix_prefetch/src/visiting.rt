@@ -25,9 +25,9 @@ use std::alloc::{AllocError, Global};
 
 /// A walk over a table: the table, the number of the job, and that of the visit.
 #[derive(Clone, Copy)]
-pub(crate) struct Visiting<'a> {
+pub(crate) struct Visiting<'t, 'a> {
     pub alloc: Global,
-    pub table: &'a Expansions<'a>,
+    pub table: &'t Expansions<'a>,
     pub number: u32,
     pub seq: u32,
 }
@@ -77,7 +77,7 @@ fn enters_list<'a>(
     Ok(bytes.is_some())
 }
 
-impl<'a> Visiting<'a> {
+impl<'a> Visiting<'_, 'a> {
     // The visit of a CID.
     fn visit(&self, cid: Cid, block: Option<usize>, depth: u32, malformed: bool) -> Visit
         ensures { result ≡ record {

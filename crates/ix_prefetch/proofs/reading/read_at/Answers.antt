@@ -1,7 +1,6 @@
-use Rattle.std.proofs.Common.{◌≡◌, ℕ, sym, ◌∙◌, ap, arith}
+use Rattle.std.proofs.Common.{ℕ, sym, ◌∙◌, ap, arith}
 use Rattle.std.specs.Prelude.{Some}
 use Rattle.ix_verdict.specs.Needed.{needed_of}
-use Rattle.ix_store.specs.Store.{position_of}
 use Rattle.ix_prefetch.proofs.Tables.{cid_is}
 use Rattle.ix_prefetch.proofs.reading.read_at.Goals as goal
 

@@ -1,7 +1,4 @@
-use Rattle.std.proofs.Common.{◌∙◌, ap, sym, subst}
-use Rattle.std.specs.Prelude.{Option}
-use Rattle.ix_prefetch.specs.declared.state.Next.{Next}
-use Rattle.ix_prefetch.specs.TableState.{IsNextLink}
+use Rattle.std.proofs.Common.{◌∙◌, ap, sym}
 use Rattle.ix_prefetch.proofs.Visits.{table_visit}
 use Rattle.ix_prefetch.proofs.table_walk.next_visit.Goals as goal
 

@@ -1,5 +1,5 @@
-use Rattle.std.proofs.Common.{◌≡◌, ◌∙◌, ◌++◌, ◌∷◌, [], List, sym, ap, subst}
-use Rattle.ix_selector.specs.Pattern.{Pattern, IsSelector}
+use Rattle.std.proofs.Common.{◌∙◌, ◌++◌, ◌∷◌, [], List, ap, subst}
+use Rattle.ix_selector.specs.Pattern.{IsSelector}
 use Rattle.ix_selector.specs.Residual.{Place}
 use Rattle.ix_selector.specs.Behind.{residual_of}
 use Rattle.ix_prefetch.proofs.Tables.{empty_kept}

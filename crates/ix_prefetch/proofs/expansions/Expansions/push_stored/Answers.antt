@@ -1,4 +1,4 @@
-use Rattle.std.proofs.Common.{◌≡◌, ◌<◌, ◌∷◌, [], length, sym, subst}
+use Rattle.std.proofs.Common.{◌<◌, ◌∷◌, [], length, sym, subst}
 use Rattle.ix_walk.specs.Walking.{waiting}
 use Rattle.ix_prefetch.specs.declared.link.Link.TheVariants.{Stored}
 use Rattle.ix_prefetch.specs.Link.{cid_at, IsHashedAt}

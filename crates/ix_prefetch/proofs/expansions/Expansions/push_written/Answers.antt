@@ -1,4 +1,4 @@
-use Rattle.std.proofs.Common.{◌≡◌, ◌∙◌, ◌<◌, ◌∷◌, [], List, ℕ, length, sym, ap, subst, arith}
+use Rattle.std.proofs.Common.{◌∙◌, ◌<◌, ◌∷◌, [], List, ℕ, length, sym, ap, subst, arith}
 use Rattle.ix_walk.specs.Walking.{waiting}
 use Rattle.ix_prefetch.specs.declared.link.Link.{Link}
 use Rattle.ix_prefetch.specs.Expansions.{ExpansionTable, residual_in, table_of, AreExpansions}

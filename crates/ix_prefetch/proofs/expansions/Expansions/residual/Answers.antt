@@ -1,4 +1,4 @@
-use Rattle.std.proofs.Common.{◌≡◌, ◌<◌, length, sym, subst}
+use Rattle.std.proofs.Common.{◌<◌, length, sym, subst}
 use Rattle.ix_prefetch.specs.Expansions.{ExpansionTable, IsMet}
 use Rattle.ix_prefetch.proofs.expansions.Expansions.residual.Goals as goal
 

@@ -1,6 +1,6 @@
 use Rattle.std.proofs.Common.{true, false, refl, sym, ◌∙◌, ap, subst, arith}
 use Rattle.std.specs.Prelude.{Some}
-use Rattle.ix_selector.specs.Pattern.{Pattern, IsSelector}
+use Rattle.ix_selector.specs.Pattern.{IsSelector}
 use Rattle.ix_selector.proofs.Onward.{left-entered}
 use Rattle.ix_walk.specs.VisitedSet.{going_of}
 use Rattle.ix_walk.specs.Walking.{Going}

@@ -2,14 +2,14 @@ use Rattle.std.proofs.Common.{subst}
 use Rattle.ix_store.specs.Store.{Blocks}
 use Rattle.ix_walk.specs.Arriving.{Goes}
 use Rattle.ix_walk.specs.VisitedSet.{going_of}
-use Rattle.ix_walk.specs.Walking.{waiting}
-use Rattle.ix_prefetch.proofs.Visits.{expanded_block, block_visited}
+use Rattle.ix_walk.specs.Walking.{waiting, data_inside}
+use Rattle.ix_prefetch.proofs.Visits.{block_valued, block_visited}
 use Rattle.ix_prefetch.proofs.visiting.Visiting.visit_bytes.Goals as goal
 
 pub put_block-requires : goal.put_block-requires
 put_block-requires c =
     let store = c.store.result.now in
-    expanded_block (going_of store c.args.state.now.expanded) (going_of store c.bytes_to_expand.new.expanded) store (waiting c.args.residual.now 0 c.args.visit.cid) c.in_ok-bytes.bytes (c.in_ok-bytes.ensures.goes 0)
+    block_valued (data_inside store (going_of store c.args.state.now.expanded) (waiting c.args.residual.now 0 c.args.visit.cid)) c.in_ok-bytes.bytes (c.in_ok-bytes.ensures.goes 0).inside
 
 pub returns : goal.returns
 returns c =

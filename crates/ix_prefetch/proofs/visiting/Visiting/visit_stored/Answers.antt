@@ -1,4 +1,4 @@
-use Rattle.std.proofs.Common.{◌≡◌, ◌∙◌, List, ℕ, map, slice_get, sym, ap, subst}
+use Rattle.std.proofs.Common.{◌≡◌, ◌∙◌, map, slice_get, sym, ap, subst}
 use Rattle.std.specs.Prelude.{Some, IfOk}
 use Rattle.ix_store.specs.Store.{Blocks, position_of}
 use Rattle.ix_walk.specs.declared.subtree.PendingLink.{PendingLink}
@@ -6,7 +6,6 @@ use Rattle.ix_walk.specs.declared.visit.Visit.{Visit}
 use Rattle.ix_walk.specs.Visits.{is_malformed}
 use Rattle.ix_walk.specs.Walking.{waiting}
 use Rattle.ix_verdict.specs.Needed.{NeedsBlock}
-use Rattle.ix_prefetch.specs.Link.{cid_at}
 use Rattle.ix_prefetch.specs.Expansions.{residual_in}
 use Rattle.ix_prefetch.specs.TableState.{IsVisited}
 use Rattle.ix_prefetch.specs.Visiting.{IsVisitAt}
