@@ -1,3 +1,4 @@
 pub mod Headline
 pub mod Progress
 pub mod Planned
+pub mod Exporting

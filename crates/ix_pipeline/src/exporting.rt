@@ -3,13 +3,14 @@
 ghost use Rattle.std.specs.Prelude.{◌≡◌, length, vec_len, IfOk, IfErr};
 ghost use Rattle.std.specs.Arc.{arc_value};
 ghost use Rattle.ix_walk.specs.JobMeaning.{AreFew};
+ghost use Rattle.ix_pipeline.specs.Exporting.{CanExport, HasExported};
 ghost use Rattle.ix_pipeline.specs.Headline.{EachDelivered, EachArchived, EachFresh, EachKept};
 ghost use Rattle.ix_pipeline.specs.Headline.{EachUnused, IsCheckedOnce, NoneOrAllStart, checked_by};
 ghost use Rattle.ix_pipeline.specs.Planned.{IsPlan};
 
 use ix_archive::{Sink, law};
 use ix_check::Check;
-use ix_stages::{Gate, Task};
+use ix_stages::{Gate, JobWalks, Open, Task};
 use ix_store::Store;
 use ix_threads::{Outcome, Plan, Prepared, flow};
 use ix_walk::Job;
@@ -22,6 +23,13 @@ use std::thread::Threads;
 pub struct NotStarted<C> {
     /// All checks, as they were given.
     pub checks: Vec<C>,
+}
+
+// The plan of an export, and the gate that walkers call.
+#[derive(Drop)]
+struct Gated<'a, G> {
+    plan: Plan,
+    gate: &'a G,
 }
 
 /// Exports every job into its sink, with as many walkers as the plan has and as many verifiers as there
@@ -63,15 +71,56 @@ where
     ensures not_started { IfErr result (λ none.
         (sinks.new ≡ sinks.old) × (none.checks.items ≡ checks.items)) }
 {
+    let walks = JobWalks::new(alloc, store, jobs);
+    export_gated(rt, alloc, &walks, sinks, checks, Gated { plan, gate })
+}
+
+/// Exports as `export` does, by walks that may go by tables of expansions. No gate is called.
+pub fn export_walks<S, C, R>(
+    rt: &R,
+    alloc: Global,
+    walks: &JobWalks<'_>,
+    sinks: &mut [S],
+    checks: Vec<C>,
+    plan: Plan,
+) -> Result<Outcome<C>, NotStarted<C>>
+where
+    S: Sink,
+    C: Check + Send + Drop,
+    R: Threads + Wait + Sync,
+    requires { CanExport S.calls C.checked walks.now.jobs sinks.old checks plan }
+    ensures { HasExported S.calls S.guarantee C.checked walks.now
+        sinks.old sinks.new checks result }
+{
+    export_gated(rt, alloc, walks, sinks, checks, Gated { plan, gate: &Open })
+}
+
+// Exports by these walks, and calls the gate.
+fn export_gated<S, C, G, R>(
+    rt: &R,
+    alloc: Global,
+    walks: &JobWalks<'_>,
+    sinks: &mut [S],
+    checks: Vec<C>,
+    gated: Gated<'_, G>,
+) -> Result<Outcome<C>, NotStarted<C>>
+where
+    S: Sink,
+    C: Check + Send + Drop,
+    G: Gate + Sync,
+    R: Threads + Wait + Sync,
+    requires { CanExport S.calls C.checked walks.now.jobs sinks.old checks gated.plan }
+    ensures { HasExported S.calls S.guarantee C.checked walks.now
+        sinks.old sinks.new checks result }
+{
+    let Gated { plan, gate } = gated;
+    let store = walks.store();
+    let jobs = walks.jobs();
     let prepared = match Prepared::new(alloc, store, jobs, plan, checks) {
         Ok(prepared) => prepared,
         Err(AllocFailed { value: checks }) => return Err(NotStarted { checks }),
     };
-    let task = Task {
-        store,
-        jobs: jobs.as_slice(),
-        gate,
-    };
+    let task = Task { walks, gate };
     let outcome = flow(rt, alloc, &task, sinks, prepared);
     law::faithful_is_archived();
     Ok(outcome)

@@ -18,7 +18,7 @@ mod exporting;
 mod plain;
 mod sink_state;
 
-pub use exporting::{NotStarted, export};
-pub use ix_stages::{Gate, Open};
+pub use exporting::{NotStarted, export, export_walks};
+pub use ix_stages::{Gate, JobWalks, Open, Prefetch};
 pub use ix_threads::{Outcome, Plan};
 pub use plain::export_plain;

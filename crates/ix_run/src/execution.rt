@@ -6,6 +6,7 @@ ghost use Rattle.std.specs.Io.KnownBytes.{Keeps};
 ghost use Rattle.ix_archive.specs.Archive.{known_at};
 ghost use Rattle.ix_archive.specs.ArchiveMeaning.{borrowed};
 ghost use Rattle.ix_archive.specs.Headline.{EachUnused, IsUnusedCheck};
+ghost use Rattle.ix_pipeline.specs.Exporting.{CanExport, HasExported};
 ghost use Rattle.ix_pipeline.specs.Planned.{IsPlan};
 ghost use Rattle.ix_run.specs.Run.{
   CanRun,
@@ -21,10 +22,10 @@ ghost use Rattle.ix_run.specs.Run.{
 
 use crate::fault::RunFault;
 use crate::observer::{Observed, Observer, Unobserved};
-use ix_archive::{Archive, ArchiveNew, End};
+use ix_archive::{Archive, ArchiveNew, End, Sink};
 use ix_check::{Check, PlainCheck};
 use ix_jobs::{JobResult, report, status};
-use ix_pipeline::{Open, Plan, export, export_plain};
+use ix_pipeline::{JobWalks, NotStarted, Outcome, Plan, Prefetch, export_plain, export_walks};
 use ix_store::{PlaceSet, Store};
 use ix_walk::Job;
 use std::alloc::{AllocError, Global};
@@ -70,12 +71,13 @@ pub fn run<'a, R: Threads + Wait + Sync, W: Write + Drop>(
         jobs,
         verifiers,
         plan,
+        prefetch: None,
     };
     run_observed(rt, alloc, input, writers, &Unobserved)
 }
 
 /// The inputs of a run besides its writers: the blocks, those of them that the receiver has, the jobs,
-/// and the number of threads.
+/// the number of threads, and how the jobs are prefetched.
 #[derive(Drop)]
 pub struct RunInput<'a> {
     pub store: &'a Arc<Store>,
@@ -85,6 +87,8 @@ pub struct RunInput<'a> {
     /// The number of verifiers.
     pub verifiers: u32,
     pub plan: Plan,
+    /// How the jobs are prefetched, if they are.
+    pub prefetch: Option<Prefetch>,
 }
 
 /// Runs the jobs as `run` does, and notifies an observer: first of the bytes of each header, then of each
@@ -109,15 +113,62 @@ pub fn run_observed<R: Threads + Wait + Sync, W: Write + Drop, V: Observer>(
         jobs,
         verifiers,
         plan,
+        prefetch,
     } = input;
     let mut archives = start_archives(alloc, store, known, jobs.as_slice(), writers, observer)?;
     let checks = plain_checks(alloc, verifiers)?;
     let sinks = archives.as_mut_slice();
-    let Ok(outcome) = export(rt, alloc, store, jobs, sinks, checks, &Open, plan) else {
+    let exported = ExportInput {
+        store,
+        jobs,
+        plan,
+        prefetch,
+    };
+    let Ok(outcome) = export_prefetched(rt, alloc, exported, sinks, checks) else {
         return Err(RunFault::Memory);
     };
     let (results, writers) = finish_archives(alloc, archives, outcome.ends.as_slice())?;
     Ok(summarize(alloc, jobs.as_slice(), results, writers)?)
+}
+
+// The inputs of an export besides its sinks and its checks.
+#[derive(Drop)]
+struct ExportInput<'a> {
+    store: &'a Arc<Store>,
+    jobs: &'a Arc<Vec<Job>>,
+    plan: Plan,
+    prefetch: Option<Prefetch>,
+}
+
+// Exports the jobs, by tables of expansions if they are prefetched. If memory runs out before a thread is
+// started, the tables are dropped, and the jobs are exported without.
+fn export_prefetched<S: Sink, R: Threads + Wait + Sync>(
+    rt: &R,
+    alloc: Global,
+    input: ExportInput<'_>,
+    sinks: &mut [S],
+    checks: Vec<PlainCheck>,
+) -> Result<Outcome<PlainCheck>, NotStarted<PlainCheck>>
+    requires { CanExport S.calls (λ c. c) (arc_value input.jobs.now).items sinks.old checks input.plan }
+    ensures { HasExported S.calls S.guarantee (λ c. c)
+        (record { store = arc_value input.entry.store.now; jobs = (arc_value input.entry.jobs.now).items })
+        sinks.old sinks.new checks result }
+{
+    let ExportInput {
+        store,
+        jobs,
+        plan,
+        prefetch,
+    } = input;
+    let walks = JobWalks::prefetched(rt, alloc, store, jobs, prefetch);
+    match export_walks(rt, alloc, &walks, sinks, checks, plan) {
+        Ok(outcome) => Ok(outcome),
+        Err(NotStarted { checks }) => {
+            drop(walks);
+            let walks = JobWalks::new(alloc, store, jobs);
+            export_walks(rt, alloc, &walks, sinks, checks, plan)
+        }
+    }
 }
 
 // Returns the result of a run from the jobs' results and their writers.

@@ -1,3 +1,5 @@
+pub mod JobWalk
+pub mod JobWalks
 pub mod Shared
 pub mod Walking
 pub mod Verified

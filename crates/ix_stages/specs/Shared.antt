@@ -9,11 +9,11 @@ use Rattle.ix_stages.specs.declared.shared.Shared.{Shared}
 module _ {G : Type 0} where
   -- the blocks of the export's store
   abbrev pub store_of : Shared G → Blocks
-  store_of x = x.task.now.store.now
+  store_of x = x.task.now.walks.now.store
 
   -- the jobs to export
   abbrev pub jobs_of : Shared G → List JobMeaning
-  jobs_of x = x.task.now.jobs.now
+  jobs_of x = x.task.now.walks.now.jobs
 
   -- the table by which the queue is known to its seats
   abbrev pub queue_of : Shared G → TableId

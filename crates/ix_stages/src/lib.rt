@@ -13,6 +13,8 @@
 #![tactic(auto)]
 
 mod gate;
+mod job_walk;
+mod job_walks;
 mod shared;
 mod verifier;
 mod walker;
@@ -22,6 +24,8 @@ pub use ix_channels::{
     Backoff, ClaimSeat, Claims, Course, Item, JobSeat, LaneIn, LaneOut, QueueParts, Rest, StopSeat,
     TakeSeat, Verdicted, VisitQueue, lane, lane_rest,
 };
+pub use job_walk::JobWalk;
+pub use job_walks::{JobWalks, Prefetch};
 pub use shared::{Shared, Task};
 pub use verifier::verify;
 pub use walker::walk_jobs;

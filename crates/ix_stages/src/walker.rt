@@ -9,27 +9,27 @@ use crate::gate::Gate;
 use crate::shared::Shared;
 use ix_archive::End;
 use ix_channels::{ClaimSeat, Item, JobSeat, law};
-use ix_walk::{Job, Walk, WalkStop};
+use ix_walk::{Job, WalkStop};
 use std::alloc::Global;
 use std::sync::Wait;
 
 // Puts the visits of the seat's job, each after the gate was called with it, and returns how the
 // walk ended.
-fn put_visits<R: Wait, G: Gate>(
+fn put_visits<'t, R: Wait, G: Gate>(
     rt: &R,
     alloc: Global,
-    shared: &Shared<'_, G>,
-    job: &Job,
+    shared: &Shared<'t, '_, G>,
+    job: &'t Job,
     seat: &mut JobSeat,
 ) -> End
     requires ready { IsReadyIn shared.now seat.old }
-    requires job { slice_get shared.now.task.now.jobs.now seat.old.job ≡ Some job.now }
+    requires job { slice_get shared.now.task.now.walks.now.jobs seat.old.job ≡ Some job.now }
     ensures same { (seat.new.table ≡ seat.old.table) × (seat.new.closed ≡ false) }
     ensures close { Allowed seat.new.pass.course (Item.Close seat.new.job seat.new.next result) }
 {
     law::course_of_jobs();
     let number = seat.job();
-    let Ok(walk) = Walk::new(alloc, shared.task.store, job, number) else {
+    let Ok(walk) = shared.task.walks.walk(alloc, job, number) else {
         return End::Memory;
     };
     for item in walk {
@@ -46,12 +46,12 @@ fn put_visits<R: Wait, G: Gate>(
 }
 
 // Walks the seat's job: puts its visits, and then the close.
-fn walk_job<R: Wait, G: Gate>(rt: &R, alloc: Global, shared: &Shared<'_, G>, seat: JobSeat)
+fn walk_job<R: Wait, G: Gate>(rt: &R, alloc: Global, shared: &Shared<'_, '_, G>, seat: JobSeat)
     requires { IsReadyIn shared.now seat }
 {
     let mut seat = seat;
     let number = seat.job() as usize;
-    let job = &shared.task.jobs[number];
+    let job = &shared.task.walks.jobs()[number];
     let end = put_visits(rt, alloc, shared, job, &mut seat);
     let close = Item::Close {
         job: seat.job(),
@@ -66,7 +66,7 @@ fn walk_job<R: Wait, G: Gate>(rt: &R, alloc: Global, shared: &Shared<'_, G>, sea
 pub fn walk_jobs<R: Wait, G: Gate>(
     rt: &R,
     alloc: Global,
-    shared: &Shared<'_, G>,
+    shared: &Shared<'_, '_, G>,
     claimer: ClaimSeat<JobSeat>,
 )
     requires { CanClaim shared.now claimer }

@@ -179,13 +179,13 @@ module _ {S : Type 0} (calls : S → Calls) (end : End) where
 
 -- where every sink was closed with Start and received nothing else, the flow has left what it is to leave
 pub flown_of_closed : {S C G About : Type 0} (calls : S → Calls) (guarantee : Fact S About) (checked : C → List (ℕ × ℕ)) (task : Task G) (first sinks : List S) (receiver : Outcome C)
-    → length first ≡ length task.jobs.now → EachClosed calls Start receiver.ends.items sinks → EachKept guarantee first sinks → AreVisitsOnce checked task receiver.checks.items
+    → length first ≡ length task.walks.now.jobs → EachClosed calls Start receiver.ends.items sinks → EachKept guarantee first sinks → AreVisitsOnce checked task receiver.checks.items
     → IsFlown calls guarantee checked task first sinks receiver
 flown_of_closed calls guarantee checked task first sinks receiver sized closed kept checks =
-    let same : length task.jobs.now ≡ length sinks = sym sized ∙ kept_length guarantee first sinks kept in
+    let same : length task.walks.now.jobs ≡ length sinks = sym sized ∙ kept_length guarantee first sinks kept in
     record {
-      delivered = delivered_of_closed calls Start task.store.now task.jobs.now receiver.ends.items sinks closed same (inl refl);
+      delivered = delivered_of_closed calls Start task.walks.now.store task.walks.now.jobs receiver.ends.items sinks closed same (inl refl);
       kept = kept;
-      checks = closed_checked calls Start task.store.now task.jobs.now receiver.ends.items sinks _ closed same (inl refl) checks.once checks.within;
+      checks = closed_checked calls Start task.walks.now.store task.walks.now.jobs receiver.ends.items sinks _ closed same (inl refl) checks.once checks.within;
       started = inr (all_ended calls Start receiver.ends.items sinks closed);
     }

@@ -84,7 +84,7 @@ fn send_stops<R: Wait>(
 }
 
 // Joins the seats of the queue. What was sent for the items they took is then known to be good.
-fn settle<G>(alloc: Global, shared: &Shared<'_, G>, stop: StopSeat, takers: Vec<TakeSeat>)
+fn settle<G>(alloc: Global, shared: &Shared<'_, '_, G>, stop: StopSeat, takers: Vec<TakeSeat>)
     requires limits { All (λ job. job.limit ≤ 4294967295) (jobs_of shared.now) }
     requires stop { stop.table ≡ queue_of shared.now }
     requires course { stop.pass.course ≡ course_of (store_of shared.now) (jobs_of shared.now) }
@@ -143,7 +143,7 @@ impl<C: Check + Drop> Caller<C> {
         scope: &'s Scope<'s, &'e ()>,
         rt: &'e R,
         alloc: Global,
-        shared: &'e Shared<'e, G>,
+        shared: &'e Shared<'e, '_, G>,
     )
     where
         R: Threads + Wait + Sync + 'e,
@@ -153,7 +153,7 @@ impl<C: Check + Drop> Caller<C> {
         ensures claimers { self.new.claimers ≡ self.old.claimers }
     {
         for (verifier, lane) in mem::replace(&mut self.unstarted, Vec::new(alloc)) {
-            let store = shared.task.store;
+            let store = shared.task.walks.store();
             if let Some(handle) = start_verifier(scope, rt, alloc, store, shared.queue, verifier) {
                 self.verifiers.push_reserved(handle);
                 self.lanes.push_reserved(lane);
@@ -167,7 +167,7 @@ impl<C: Check + Drop> Caller<C> {
         scope: &'s Scope<'s, &'e ()>,
         rt: &'e R,
         alloc: Global,
-        shared: &'e Shared<'e, G>,
+        shared: &'e Shared<'e, '_, G>,
     ) -> bool
     where
         R: Threads + Wait + Sync + 'e,
@@ -276,7 +276,7 @@ impl<C: Check + Drop> Caller<C> {
         self,
         rt: &R,
         alloc: Global,
-        shared: &Shared<'_, G>,
+        shared: &Shared<'_, '_, G>,
         sinks: &mut [S],
     ) -> Outcome<C>
         requires joined { HasJoined C.checked shared.now self }
@@ -306,7 +306,7 @@ impl<C: Check + Drop> Caller<C> {
     pub(crate) fn close_unstarted<S: Sink, G>(
         self,
         alloc: Global,
-        shared: &Shared<'_, G>,
+        shared: &Shared<'_, '_, G>,
         sinks: &mut [S],
     ) -> Outcome<C>
         requires joined { HasJoined C.checked shared.now self }

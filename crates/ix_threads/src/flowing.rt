@@ -29,7 +29,7 @@ fn flow_in<'s, 'e, S, C, G, R>(
     scope: &'s Scope<'s, &'e ()>,
     rt: &'e R,
     alloc: Global,
-    shared: &'e Shared<'e, G>,
+    shared: &'e Shared<'e, '_, G>,
     sinks: &mut [S],
     caller: Caller<C>,
 ) -> Outcome<C>
@@ -61,7 +61,7 @@ where
 fn flow_scoped<'a, 'b, S, C, G, R>(
     rt: &R,
     alloc: Global,
-    shared: &Shared<'_, G>,
+    shared: &Shared<'_, '_, G>,
     sinks: &'a mut [S],
     outcome: &'b mut Option<Outcome<C>>,
     caller: Caller<C>,
@@ -98,7 +98,7 @@ where
 pub fn flow<S, C, G, R>(
     rt: &R,
     alloc: Global,
-    task: &Task<'_, G>,
+    task: &Task<'_, '_, G>,
     sinks: &mut [S],
     prepared: Prepared<C>,
 ) -> Outcome<C>
@@ -107,8 +107,8 @@ where
     C: Check + Send + Drop,
     G: Gate + Sync,
     R: Threads + Wait + Sync,
-    requires prepared { IsPrepared C.checked task.now.store.now task.now.jobs.now prepared }
-    requires sinks { AreFreshSinks S.calls (length task.now.jobs.now) sinks.old }
+    requires prepared { IsPrepared C.checked task.now.walks.now.store task.now.walks.now.jobs prepared }
+    requires sinks { AreFreshSinks S.calls (length task.now.walks.now.jobs) sinks.old }
     ensures { IsFlown S.calls S.guarantee C.checked task.now sinks.old sinks.new result }
 {
     let Prepared {

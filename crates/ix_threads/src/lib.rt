@@ -12,7 +12,7 @@
 //!     Ok(prepared) => prepared,
 //!     Err(AllocFailed { value: checks }) => return Err(checks),
 //! };
-//! let task = Task { store: &store, jobs: jobs.as_slice(), gate: &Open };
+//! let task = Task { walks: &JobWalks::new(alloc, &store, &jobs), gate: &Open };
 //! let outcome = flow(rt, alloc, &task, &mut sinks, prepared);
 //! ```
 #![tactic(auto)]

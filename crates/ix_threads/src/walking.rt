@@ -12,7 +12,7 @@ pub(crate) fn start_walker<'s, 'e, R: Threads + Wait + Sync + 'e, G: Gate + Sync
     scope: &'s Scope<'s, &'e ()>,
     rt: &'e R,
     alloc: Global,
-    shared: &'e Shared<'e, G>,
+    shared: &'e Shared<'e, '_, G>,
     claimer: ClaimSeat<JobSeat>,
 ) -> bool
     requires { CanClaim shared.now claimer }

@@ -1,25 +1,16 @@
-use Rattle.std.proofs.Common.{rules, List, subst}
+use Rattle.std.proofs.Common.{refl}
 use Rattle.std.specs.Arc.{arc_value}
-use Rattle.std.specs.Global.{Vec}
-use Rattle.ix_store.specs.Store.{Blocks}
-use Rattle.ix_walk.specs.JobMeaning.{JobMeaning}
-use Rattle.ix_walk.specs.declared.job.Job.{Job}
-use Rattle.ix_collect.proofs.Kept.{kept_same}
-use Rattle.ix_pipeline.specs.Headline.{EachDelivered}
-use Rattle.ix_pipeline.proofs.Exported.{archived_of_delivered}
+use Rattle.ix_pipeline.proofs.Walks.{both, walks_of_both, can_export_as, exported_as}
 use Rattle.ix_pipeline.proofs.exporting.export.Goals as goal
 
-pub returns-in-Err-clause-facts : goal.returns-in-Err-clause-facts
-returns-in-Err-clause-facts g c = kept_same g.S.Sink.guarantee c.args.sinks.now
+pub export_gated-requires-after_bounds : goal.export_gated-requires-after_bounds
+export_gated-requires-after_bounds g c = λ κs lives.
+    let is = walks_of_both c.deref.result.now (arc_value c.args.store.now) c.deref-2.result.now (arc_value c.args.jobs.now) c.new-walks.result c.new-walks.ensures c.deref.ensures c.deref-2.ensures in
+    can_export_as {calls = g.S.Sink.calls} {checked = g.C.Check.checked} {sinks = c.args.sinks.now} {checks = c.args.checks} {plan = c.args.plan} c.new-walks.result (both (arc_value c.args.store.now) (arc_value c.args.jobs.now).items) is
+    (record { one_each = c.requires.sinks; fresh = c.requires.fresh; unused = c.requires.unused; few = c.requires.jobs; planned = c.requires.plan })
 
-pub returns-clause-archived : goal.returns-clause-archived
-returns-clause-archived g c =
-    let ends = c.flow-outcome.result.ends.items in
-    let sinks = c.flow-outcome.new.sinks in
-    archived_of_delivered g.S.Sink.calls c.faithful_is_archived.ensures (arc_value c.args.store.now) 0 (arc_value c.args.jobs.now).items ends sinks
-    (subst (λ (v : Vec Job). EachDelivered g.S.Sink.calls (arc_value c.args.store.now) 0 v.items ends sinks) c.deref-4.ensures
-    (subst (λ (s : Blocks). EachDelivered g.S.Sink.calls s 0 c.deref-4.result.now.items ends sinks) c.deref-3.ensures
-    (subst (λ (js : List JobMeaning). EachDelivered g.S.Sink.calls c.deref-3.result.now 0 js ends sinks) c.as_slice.ensures.value c.flow-outcome.ensures.delivered)))
-
-pub returns-clause-checked : goal.returns-clause-checked
-returns-clause-checked g c = search rules
+pub returns : goal.returns
+returns g c =
+    let is = walks_of_both c.deref.result.now (arc_value c.args.store.now) c.deref-2.result.now (arc_value c.args.jobs.now) c.new-walks.result c.new-walks.ensures c.deref.ensures c.deref-2.ensures in
+    let e = exported_as c.new-walks.result (both (arc_value c.args.store.now) (arc_value c.args.jobs.now).items) is c.export_gated.ensures in
+    record { delivered = e.delivered; archived = e.archived; started = e.started; facts = e.facts; checked = e.each_checked; not_started = e.not_started }

@@ -1,4 +1,4 @@
-use Rattle.std.proofs.Common.{◌≡◌, List, sym, ◌∙◌, ap, subst, length}
+use Rattle.std.proofs.Common.{rules, ◌≡◌, List, sym, ◌∙◌, ap, subst, length}
 use Rattle.std.specs.Arc.{arc_value}
 use Rattle.ix_walk.specs.JobMeaning.{JobMeaning}
 use Rattle.ix_archive.specs.Archive.{known_at}
@@ -8,21 +8,24 @@ use Rattle.ix_run.specs.Run.{EachRun, EachBegun, IsLeftOf}
 use Rattle.ix_run.proofs.Runs.{begun-length, begun-fresh, delivered-length, kept-length, whole_again, ended_sinks, run-length}
 use Rattle.ix_run.proofs.execution.run_observed.Goals as goal
 
-pub export-requires-clause-sinks : goal.export-requires-clause-sinks
-export-requires-clause-sinks g c κs within =
+pub export_prefetched-requires-after_bounds : goal.export_prefetched-requires-after_bounds
+export_prefetched-requires-after_bounds g c = λ κs lives.
     let told = g.W.Write.contents in
     let same : c.as_slice.result.now ≡ (arc_value c.args.input.jobs.now).items = c.as_slice.ensures.value ∙ ap (λ v. v.items) c.deref-2.ensures in
-    ap length c.as_mut_slice-sinks.ensures.value ∙ begun-length told (known_at c.deref.result.now (borrowed c.args.input.known)) c.deref.result.now c.as_slice.result.now c.args.writers.items c.in_ok-archives.archives.items c.in_ok-archives.ensures.begun ∙ ap length same
-
-pub export-requires-clause-fresh : goal.export-requires-clause-fresh
-export-requires-clause-fresh g c κs within =
-    subst (EachFresh calls_of) (sym c.as_mut_slice-sinks.ensures.value)
-    (begun-fresh g.W.Write.contents (known_at c.deref.result.now (borrowed c.args.input.known)) c.deref.result.now c.as_slice.result.now c.args.writers.items c.in_ok-archives.archives.items c.in_ok-archives.ensures.begun)
+    record {
+      one_each = ap length c.as_mut_slice-sinks.ensures.value ∙ begun-length told (known_at c.deref.result.now (borrowed c.args.input.known)) c.deref.result.now c.as_slice.result.now c.args.writers.items c.in_ok-archives.archives.items c.in_ok-archives.ensures.begun ∙ ap length same;
+      fresh =
+          subst (EachFresh calls_of) (sym c.as_mut_slice-sinks.ensures.value)
+          (begun-fresh told (known_at c.deref.result.now (borrowed c.args.input.known)) c.deref.result.now c.as_slice.result.now c.args.writers.items c.in_ok-archives.archives.items c.in_ok-archives.ensures.begun);
+      unused = c.in_ok-checks.ensures.unused;
+      few = c.requires.run.1;
+      planned = search rules;
+    }
 
 pub finish_archives-requires : goal.finish_archives-requires
 finish_archives-requires g c =
     let told = g.W.Write.contents in
-    let sinks = c.export.new.sinks in
+    let sinks = c.export_prefetched.new.sinks in
     let archives = c.in_ok-archives.archives in
     let size = kept-length told (known_at (arc_value c.args.input.store.now) (borrowed c.args.input.known)) c.as_mut_slice-sinks.result.now sinks c.in-Ok.ensures.facts ∙ c.as_mut_slice-sinks.ensures.len in
     ap length (whole_again archives.len sinks archives.items size) ∙ delivered-length told (known_at (arc_value c.args.input.store.now) (borrowed c.args.input.known)) (arc_value c.args.input.store.now) 0 (arc_value c.args.input.jobs.now).items c.in-Ok.outcome.ends.items sinks c.in-Ok.ensures.delivered
@@ -34,7 +37,7 @@ summarize-requires g c =
     let archives = c.in_ok-archives.archives in
     let exported = c.in-Ok.ensures in
     let begun = subst (λ s. EachBegun g.W.Write.contents (known_at s (borrowed c.args.input.known)) c.deref.result.now c.as_slice.result.now c.args.writers.items c.in_ok-archives.archives.items) c.deref.ensures c.in_ok-archives.ensures.begun in
-    let ran = ended_sinks g.W.Write.contents (known_at (arc_value c.args.input.store.now) (borrowed c.args.input.known)) c.deref.result.now (arc_value c.args.input.store.now) c.as_slice.result.now jobs c.args.writers.items c.in_ok-results.writers.items archives.items c.as_mut_slice-sinks.result.now c.export.new.sinks
+    let ran = ended_sinks g.W.Write.contents (known_at (arc_value c.args.input.store.now) (borrowed c.args.input.known)) c.deref.result.now (arc_value c.args.input.store.now) c.as_slice.result.now jobs c.args.writers.items c.in_ok-results.writers.items archives.items c.as_mut_slice-sinks.result.now c.export_prefetched.new.sinks
     archives.len c.in-Ok.outcome.ends.items c.as_slice-2.result.now c.in_ok-results.results.items c.deref.ensures (c.as_slice.ensures.value ∙ ap (λ v. v.items) c.deref-2.ensures) begun
     c.as_mut_slice-sinks.ensures.value c.as_mut_slice-sinks.ensures.len exported.facts exported.delivered exported.archived c.as_slice-2.ensures.value c.in_ok-results.ensures in
     ap length (c.as_slice-3.ensures.value ∙ ap (λ v. v.items) c.deref-3.ensures) ∙ run-length g.W.Write.contents (known_at (arc_value c.args.input.store.now) (borrowed c.args.input.known)) (arc_value c.args.input.store.now) 0 jobs c.args.writers.items c.in_ok-results.writers.items c.in_ok-results.results.items ran
@@ -45,7 +48,7 @@ returns-clause-ran g c =
     let archives = c.in_ok-archives.archives in
     let exported = c.in-Ok.ensures in
     let begun = subst (λ s. EachBegun g.W.Write.contents (known_at s (borrowed c.args.input.known)) c.deref.result.now c.as_slice.result.now c.args.writers.items c.in_ok-archives.archives.items) c.deref.ensures c.in_ok-archives.ensures.begun in
-    let ran = ended_sinks g.W.Write.contents (known_at (arc_value c.args.input.store.now) (borrowed c.args.input.known)) c.deref.result.now (arc_value c.args.input.store.now) c.as_slice.result.now jobs c.args.writers.items c.in_ok-results.writers.items archives.items c.as_mut_slice-sinks.result.now c.export.new.sinks
+    let ran = ended_sinks g.W.Write.contents (known_at (arc_value c.args.input.store.now) (borrowed c.args.input.known)) c.deref.result.now (arc_value c.args.input.store.now) c.as_slice.result.now jobs c.args.writers.items c.in_ok-results.writers.items archives.items c.as_mut_slice-sinks.result.now c.export_prefetched.new.sinks
     archives.len c.in-Ok.outcome.ends.items c.as_slice-2.result.now c.in_ok-results.results.items c.deref.ensures (c.as_slice.ensures.value ∙ ap (λ v. v.items) c.deref-2.ensures) begun
     c.as_mut_slice-sinks.ensures.value c.as_mut_slice-sinks.ensures.len exported.facts exported.delivered exported.archived c.as_slice-2.ensures.value c.in_ok-results.ensures in
     let out = c.in_ok-summarize.field-0 in

@@ -8,7 +8,7 @@ invariant-loop-item g l = record {
   job : l.seat.job ≡ l.number;
   going : l.seat.closed ≡ false;
   course : l.seat.pass.course ≡ l.fn.seat.pass.course;
-  within : l.seat.next ≤ length (visits_of l.shared.task.now.store.now l.number l.job);
-  left : l.item-iterator.visits ≡ drop l.seat.next (visits_of l.shared.task.now.store.now l.number l.job);
-  limited : l.item-iterator.limited ≡ is_over_limit l.shared.task.now.store.now l.job;
+  within : l.seat.next ≤ length (visits_of l.shared.task.now.walks.now.store l.number l.job);
+  left : l.item-iterator.visits ≡ drop l.seat.next (visits_of l.shared.task.now.walks.now.store l.number l.job);
+  limited : l.item-iterator.limited ≡ is_over_limit l.shared.task.now.walks.now.store l.job;
 }

@@ -3,9 +3,10 @@ use Rattle.std.proofs.lemmas.List.Elements.{All-nil, All-head, All-tail, All-pus
 use Rattle.std.specs.Global.{Vec}
 use Rattle.std.specs.Vec.Iter.{into_iter_items}
 use Rattle.std.specs.declared.thread.PromisedHandle.{PromisedHandle}
+use Rattle.ix_store.specs.Store.{Blocks}
 use Rattle.ix_channels.specs.declared.lanes.LaneOut.{LaneOut}
 use Rattle.ix_channels.specs.declared.verdicted.Verdicted.{Verdicted}
-use Rattle.ix_channels.specs.Course.{course_of}
+use Rattle.ix_channels.specs.Course.{IsCourseOf, course_of}
 use Rattle.ix_channels.specs.Lanes.{received_by, all_received}
 use Rattle.ix_stages.specs.Shared.{store_of, jobs_of, queue_of}
 use Rattle.ix_collect.specs.Collected.{job_count, IsUnused}
@@ -13,7 +14,7 @@ use Rattle.ix_threads.specs.declared.caller.Caller.{Caller}
 use Rattle.ix_threads.specs.declared.verifying.Verifier.{Verifier}
 use Rattle.ix_threads.specs.declared.verifying.StartFacts.{StartFacts}
 use Rattle.ix_threads.specs.Caller.{HasJoinRoom, IsRoomFor}
-use Rattle.ix_threads.specs.Verifiers.{IsUnstarted, IsBegan, EachOut}
+use Rattle.ix_threads.specs.Verifiers.{IsUnstarted, IsStartOf, IsBegan, EachOut}
 use Rattle.ix_threads.proofs.Ends.{out_push}
 use Rattle.ix_threads.proofs.Lists.{received_push}
 use Rattle.ix_threads.proofs.Starts.{began_with, lane_of}
@@ -44,7 +45,7 @@ start_verifier-requires-after_bounds g c = λ κs lives.
     let P = IsUnstarted g.C.Check.checked (store_of c.args.shared.now) (queue_of c.args.shared.now) in
     let all = subst (λ (l : List (Verifier g.row.C.Denot × LaneOut)). All P l) c.in-Some.ensures.steps.0 c.loop-verifier.invariant.unstarted in
     let is = All-head P (c.in-Some.verifier, c.in-Some.lane) (into_iter_items c.next.new.self) all in
-    (is.table, is.course)
+    (is.table, subst (λ (s : Blocks). IsCourseOf s c.in-Some.verifier.seat.pass.course) (sym c.store-store.ensures) is.course)
 
 pub loop-verifier-preserved : goal.loop-verifier-preserved
 loop-verifier-preserved g c =
@@ -79,7 +80,7 @@ loop-verifier-preserved-in-Some-start_verifier g c =
     let all = subst (λ (l : List (Verifier g.row.C.Denot × LaneOut)). All P l) steps h.unstarted in
     let is : P idle = All-head P idle rest all in
     let handle = c.in-Some-start_verifier.handle in
-    let e = c.in-Some-start_verifier.ensures in
+    let e = subst (λ (s : Blocks). IsStartOf s c.in-Some.verifier handle) c.store-store.ensures c.in-Some-start_verifier.ensures in
     let verifiers = c.push_reserved.ensures in
     let lanes = c.push_reserved-in-Some-start_verifier.ensures in
     record {
