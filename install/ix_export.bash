@@ -37,6 +37,10 @@ _ix_export() {
       mapfile -t COMPREPLY < <(compgen -W 'raw dag-cbor all' -- "$word")
       return
       ;;
+    --prefetch)
+      mapfile -t COMPREPLY < <(compgen -W 'auto on off' -- "$word")
+      return
+      ;;
     --scope)
       mapfile -t COMPREPLY < <(compgen -W 'all block entity' -- "$word")
       return
@@ -44,8 +48,8 @@ _ix_export() {
     --root | --segment | --path | --selector | --selector-hex | --limit | --max-limit | --cid | --hex | --part | --max-input | --max-block) return ;;
   esac
   case $command in
-    get) it='--blocks --root --segment --scope --selector --selector-hex --limit --once --every-arrival --without --without-list --allow-missing --out -o --walkers --verifiers --max-input --carv2 --prefer-sound --complete --partial --sync --no-sync --paths --json --progress --quiet -q --verbose -v --help -h' ;;
-    jobs) it='--blocks --jobs --out -o --part --without --without-list --allow-missing --max-limit --walkers --verifiers --max-input --carv2 --prefer-sound --once --every-arrival --complete --partial --sync --no-sync --paths --json --progress --quiet -q --verbose -v --help -h' ;;
+    get) it='--blocks --root --segment --scope --selector --selector-hex --limit --once --every-arrival --without --without-list --allow-missing --out -o --walkers --verifiers --prefetch --max-input --carv2 --prefer-sound --complete --partial --sync --no-sync --paths --json --progress --quiet -q --verbose -v --help -h' ;;
+    jobs) it='--blocks --jobs --out -o --part --without --without-list --allow-missing --max-limit --walkers --verifiers --prefetch --max-input --carv2 --prefer-sound --once --every-arrival --complete --partial --sync --no-sync --paths --json --progress --quiet -q --verbose -v --help -h' ;;
     job) it='--blocks --scope --max-limit --max-input --carv2 --prefer-sound --quiet -q --help -h' ;;
     check-jobs) it='--max-limit --max-input --json --quiet -q --help -h' ;;
     selector) it='--hex --quiet -q --help -h' ;;

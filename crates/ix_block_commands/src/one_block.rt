@@ -7,16 +7,13 @@ use ix_cid::code::RAW;
 use ix_cli_io::{ANY_SIZE, Failure, Progress, ProgressMode};
 use ix_load::{BlockFiles, LoadedBlocks, obstacle_line, path_of};
 use ix_options::{
-    ArgKind, ArgSpec, CommandSpec, Host, QUIET_PROGRESS, at_most_processors, most_input,
+    ArgKind, ArgSpec, CommandSpec, Host, QUIET_PROGRESS, available_processors, most_input,
     print_refusal, progress_mode,
 };
 use ix_path::{GREATEST_SEGMENTS, NodeBytes, Obstacle, RootPath, resolve};
 use ix_store::Store;
 use ix_verdict::Verdict;
 use std::alloc::{AllocError, Global};
-
-// The most threads that load blocks: as many as `get` has by default. There are no more than processors.
-const LOADERS: usize = 8;
 
 /// The status if there is no sound block, or if it can't be printed.
 pub(crate) const NO_BLOCK: u8 = 3;
@@ -61,7 +58,7 @@ impl<'a> OneBlock<'a> {
     /// Loads the files.
     pub(crate) fn load<R: Host>(&self, rt: &R) -> Result<LoadedBlocks, Failure> {
         let progress = Progress::new(rt, self.progress);
-        let loaders = at_most_processors(rt, LOADERS);
+        let loaders = available_processors(rt);
         let files = self.files.read(rt, loaders, &progress);
         progress.end();
         self.files.store_of(rt, files?, loaders)

@@ -4,14 +4,15 @@ ghost use Rattle.std.specs.Prelude.{◌≡◌};
 ghost use Rattle.std.specs.Arc.{arc_value};
 ghost use Rattle.ix_walk.specs.JobMeaning.{AreFew};
 ghost use Rattle.ix_pipeline.specs.Planned.{IsPlan};
+ghost use Rattle.ix_run.specs.Run.{CanRun};
 
 use crate::example::Example;
 use crate::jobs::line_of_fault;
 use anyhow::{Error, Result, bail};
 use ix_case_formats::texts::{escaped, hex_of};
 use ix_jobs::{report, status};
-use ix_pipeline::Plan;
-use ix_run::{RunOut, prepare, run};
+use ix_pipeline::{Plan, Prefetch};
+use ix_run::{RunFault, RunInput, RunOut, Unobserved, prepare, run, run_observed};
 use ix_store::Store;
 use ix_walk::Job;
 use std::alloc::{AllocError, Global};
@@ -21,6 +22,12 @@ use std::thread::Threads;
 
 // The answer if everything is as the example says.
 const AS_WRITTEN: &str = "as written";
+
+// How many runs are prefetched, and how many bytes of links and pairs one may take more than the one before. A pair
+// has 16 bytes and a link 12.
+const PREFETCHED_RUNS: usize = 12;
+
+const STEP: usize = 36;
 
 // A writer that takes so many bytes and then fails.
 #[derive(Drop)]
@@ -45,16 +52,36 @@ impl Write for Narrow {
     }
 }
 
-/// `run = as written`, where report, status and archives are as the example says by each plan; else
-/// the first that differs, or the line of the fault
+/// `run = as written`, where report, status and archives are as the example says by each plan, and with
+/// prefetching that ends early or late; else the first that differs, or the line of the fault
 pub fn runs<R: Threads + Wait + Sync>(rt: &R, alloc: Global, example: &Example) -> Result<String> {
-    let first = run_by(rt, alloc, example, 2, plan_of(2, 256, 64))?;
-    let second = run_by(rt, alloc, example, 4, plan_of(3, 1, 1))?;
+    let first = run_by(rt, alloc, example, 2, plan_of(2, 256, 64), None)?;
+    let second = run_by(rt, alloc, example, 4, plan_of(3, 1, 1), None)?;
     let answer = first_differing(first, second);
-    let third = run_by(rt, alloc, example, 1, plan_of(1, 1, 1))?;
+    let third = run_by(rt, alloc, example, 1, plan_of(1, 1, 1), None)?;
     let answer = first_differing(answer, third);
-    let fourth = run_by(rt, alloc, example, 64, plan_of(64, 4096, 4096))?;
-    Ok(first_differing(answer, fourth))
+    let fourth = run_by(rt, alloc, example, 64, plan_of(64, 4096, 4096), None)?;
+    let answer = first_differing(answer, fourth);
+    let prefetched = prefetched_runs(rt, alloc, example)?;
+    Ok(first_differing(answer, prefetched))
+}
+
+// The same with prefetching that ends once the tables have so many bytes, from none to more than they need.
+fn prefetched_runs<R: Threads + Wait + Sync>(
+    rt: &R,
+    alloc: Global,
+    example: &Example,
+) -> Result<String> {
+    let mut answer = String::from_str(alloc, AS_WRITTEN)?;
+    for number in 0..PREFETCHED_RUNS {
+        let prefetch = Prefetch {
+            threads: 2,
+            most_bytes: number.saturating_mul(STEP),
+        };
+        let next = run_by(rt, alloc, example, 2, plan_of(2, 256, 64), Some(prefetch))?;
+        answer = first_differing(answer, next);
+    }
+    Ok(answer)
 }
 
 // The first answer, or the second where the first is that all is as written.
@@ -82,44 +109,71 @@ fn plan_of(walkers: u32, queue: u32, lane: u32) -> Plan
     }
 }
 
-// The same by so many verifiers and one plan.
+// The same by so many verifiers and one plan, with prefetching if it says how.
 fn run_by<R: Threads + Wait + Sync>(
     rt: &R,
     alloc: Global,
     example: &Example,
     verifiers: u32,
     plan: Plan,
+    prefetch: Option<Prefetch>,
 ) -> Result<String>
     requires { IsPlan plan verifiers }
 {
     let car = example.car()?;
     match prepare(alloc, car.as_slice(), example.jobs.as_bytes()) {
-        Ok(prepared) => run_prepared(rt, alloc, example, &prepared, verifiers, plan),
+        Ok(prepared) => {
+            let (store, jobs) = &prepared;
+            let input = RunInput {
+                store,
+                known: None,
+                jobs,
+                verifiers,
+                plan,
+                prefetch,
+            };
+            run_prepared(rt, alloc, example, input)
+        }
         Err(fault) => line_of_fault(alloc, &fault),
     }
 }
 
-// The same of the store and the jobs that a run needs.
+// The same of the inputs that a run needs.
 fn run_prepared<R: Threads + Wait + Sync>(
     rt: &R,
     alloc: Global,
     example: &Example,
-    prepared: &(Arc<Store>, Arc<Vec<Job>>),
-    verifiers: u32,
-    plan: Plan,
+    input: RunInput<'_>,
 ) -> Result<String>
-    requires jobs { AreFew (arc_value prepared.now.1).items }
-    requires plan { IsPlan plan verifiers }
+    requires jobs { AreFew (arc_value input.jobs.now).items }
+    requires plan { IsPlan input.plan input.verifiers }
 {
-    let (store, jobs) = prepared;
-    let writers = writers_of(alloc, example, jobs.len())?;
-    if writers.len() != jobs.len() {
+    let count = input.jobs.len();
+    let writers = writers_of(alloc, example, count)?;
+    if writers.len() != count {
         bail!("a writer for each job was wanted");
     }
-    match run(rt, alloc, store, jobs, writers, verifiers, plan) {
+    match run_with(rt, alloc, input, writers) {
         Ok(out) => compared(alloc, example, &out),
         Err(fault) => line_of_fault(alloc, &fault),
     }
+}
+
+// Runs the jobs by the call that is specified, or by the one that prefetches.
+fn run_with<R: Threads + Wait + Sync>(
+    rt: &R,
+    alloc: Global,
+    input: RunInput<'_>,
+    writers: Vec<Narrow>,
+) -> Result<RunOut<Narrow>, RunFault>
+    requires run { CanRun (arc_value input.jobs.now).items writers.items }
+    requires plan { IsPlan input.plan input.verifiers }
+{
+    if input.prefetch.is_some() {
+        return run_observed(rt, alloc, input, writers, &Unobserved);
+    }
+    let (store, jobs) = (input.store, input.jobs);
+    run(rt, alloc, store, jobs, writers, input.verifiers, input.plan)
 }
 
 // A writer for each of so many jobs.

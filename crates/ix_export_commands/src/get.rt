@@ -16,14 +16,15 @@ use ix_job_errors::{job_fault_words, lacks_an_edge};
 use ix_job_line::{JobWords, SelectorWord, jobs_of_words, selector_hex};
 use ix_jobs::{AllowMissing, JobResult};
 use ix_load::{
-    BlockFiles, KnownInputs, LoadedBlocks, NoJobs, RootPaths, RootWords, Roots, RunReport, SCOPE,
-    Scope, ThreadCounts, allowed_missing, forget_store, no_jobs, no_roots, refused_roots,
-    roots_note, roots_text,
+    BlockFiles, KnownInputs, LoadedBlocks, NoJobs, Prefetching, RootPaths, RootWords, Roots,
+    RunReport, SCOPE, Scope, ThreadCounts, allowed_missing, forget_store, no_jobs, no_roots,
+    refused_roots, roots_note, roots_text,
 };
 use ix_options::{
     ALLOW_MISSING, ArgKind, ArgSpec, BLOCKS, CARV2, CommandSpec, Host, JSON, MAX_INPUT, NO_SYNC,
-    PREFER_SOUND, PROGRESS, QUIET, SYNC, Terminals, VERIFIERS, WALKERS, WITHOUT, WITHOUT_LIST,
-    most_input, output_path, print_notes, print_refusal, progress_mode,
+    PREFER_SOUND, PREFETCH, PROGRESS, QUIET, SYNC, Terminals, VERIFIERS, WALKERS, WITHOUT,
+    WITHOUT_LIST, available_processors, most_input, output_path, print_notes, print_refusal,
+    progress_mode,
 };
 use ix_run::{RunFault, is_complete};
 use ix_store::Store;
@@ -197,6 +198,7 @@ pub static SPEC: CommandSpec = CommandSpec {
         OUT,
         WALKERS,
         VERIFIERS,
+        PREFETCH,
         MAX_INPUT,
         CARV2,
         PREFER_SOUND,
@@ -219,7 +221,7 @@ pub fn run<'a, R: Host>(
     words: &ArgMatches<'a>,
     terminals: Terminals,
 ) -> Result<u8, Failure> {
-    let command = GetCommand::read(rt.alloc(), words, terminals)?;
+    let command = GetCommand::read(rt.alloc(), words, available_processors(rt), terminals)?;
     let roots = command.roots.text(rt.alloc())?;
     let jobs = match command.jobs(rt.alloc(), roots.as_str(), &command.selector) {
         Ok(jobs) => jobs,
@@ -277,6 +279,7 @@ impl<'a> GetCommand<'a> {
     fn read(
         alloc: Global,
         words: &ArgMatches<'a>,
+        processors: usize,
         terminals: Terminals,
     ) -> Result<GetCommand<'a>, Failure> {
         let path = output_path(alloc, &SPEC, &OUT, words, terminals.output, "archive")?;
@@ -285,6 +288,7 @@ impl<'a> GetCommand<'a> {
         let known = KnownInputs::given(alloc, &SPEC, words, &blocks)?;
         let allowed = allowed_missing(alloc, &SPEC, words)?;
         let scope = Scope::given(alloc, &SPEC, SCOPE.optional_text(words))?;
+        let prefetching = Prefetching::given(alloc, &SPEC, words)?;
         let names = words.get_strs(SEGMENT.name).unwrap_or(&[]);
         Ok(GetCommand {
             roots: Roots::given(
@@ -303,7 +307,7 @@ impl<'a> GetCommand<'a> {
             known,
             allowed,
             path,
-            threads: ThreadCounts::given(words),
+            threads: ThreadCounts::by_processors(words, processors, prefetching),
             naming: if PARTIAL.is_given(words) {
                 Naming::Ended
             } else {

@@ -16,13 +16,13 @@ use ix_cli_io::{
 };
 use ix_jobs::{AllowMissing, Part};
 use ix_load::{
-    BlockFiles, KnownInputs, LoadedBlocks, RunReport, ThreadCounts, allowed_missing, forget_store,
-    refused_inputs,
+    BlockFiles, KnownInputs, LoadedBlocks, Prefetching, RunReport, ThreadCounts, allowed_missing,
+    forget_store, refused_inputs,
 };
 use ix_options::{
     ALLOW_MISSING, ArgKind, ArgSpec, BLOCKS, CARV2, CommandSpec, Host, JSON, MAX_INPUT_1G,
-    MAX_LIMIT, PREFER_SOUND, PROGRESS, QUIET, VERBOSE, VERIFIERS, WALKERS, WITHOUT, WITHOUT_LIST,
-    most_input, print_all, print_notes, progress_mode,
+    MAX_LIMIT, PREFER_SOUND, PREFETCH, PROGRESS, QUIET, VERBOSE, VERIFIERS_4, WALKERS_4, WITHOUT,
+    WITHOUT_LIST, most_input, print_all, print_notes, progress_mode,
 };
 use ix_run::{JobChoice, RunFault, load_jobs};
 use ix_walk::Job;
@@ -178,8 +178,9 @@ pub static SPEC: CommandSpec = CommandSpec {
         WITHOUT_LIST,
         ALLOW_MISSING,
         MAX_LIMIT,
-        WALKERS,
-        VERIFIERS,
+        WALKERS_4,
+        VERIFIERS_4,
+        PREFETCH,
         MAX_INPUT_1G,
         CARV2,
         PREFER_SOUND,
@@ -250,6 +251,7 @@ impl<'a> JobsCommand<'a> {
         let blocks = BlockFiles::given(alloc, &SPEC, words, most, CARV2.is_given(words))?;
         let known = KnownInputs::given(alloc, &SPEC, words, &blocks)?;
         let allowed = allowed_missing(alloc, &SPEC, words)?;
+        let prefetching = Prefetching::given(alloc, &SPEC, words)?;
         let job_file = JOBS.text(words);
         if job_file == STANDARD_INPUT
             && let Some(option) = known.standard_input(&blocks)
@@ -277,7 +279,7 @@ impl<'a> JobsCommand<'a> {
                 greatest_limit: MAX_LIMIT.limit(words),
                 once: ONCE.is_given(words),
             },
-            threads: ThreadCounts::given(words),
+            threads: ThreadCounts::given(words, prefetching),
             is_synced: SYNC.is_given(words),
             naming,
             is_quiet: QUIET.is_given(words),

@@ -9,8 +9,8 @@ use ix_cid::HashFunction;
 use ix_cli_io::{ANY_SIZE, Failure, REFUSED, STANDARD_INPUT, read_input};
 use ix_inspect::{Kind, Summary, codec_name, hash_name, kind_of, summary_of};
 use ix_options::{
-    ArgKind, ArgSpec, CARV2, CARV2_HEADER, CommandSpec, JSON, MAX_INPUT, QUIET, at_most_processors,
-    is_of_carv2, most_input, words_of,
+    ArgKind, ArgSpec, CARV2, CARV2_HEADER, CommandSpec, JSON, MAX_INPUT, QUIET,
+    available_processors, is_of_carv2, most_input, words_of,
 };
 use ix_run::RunFault;
 use std::alloc::{AllocError, Global};
@@ -18,10 +18,6 @@ use std::fmt::Write as FmtWrite;
 use std::io::{self, BufWriter, ErrorKind, Write};
 use std::rt::Files;
 use std::thread::Threads;
-
-// The most threads that look up CIDs: as many as load blocks by default. There are no more than
-// processors.
-const LOADERS: usize = 8;
 
 // The memory that `get` and `jobs` take at most for the blocks of a file, if their CIDs aren't crafted to
 // share slots of the index: beside the file for each section, and for all else.
@@ -246,7 +242,7 @@ fn describe<R: AllocGlobal + Print + Threads + Sync>(
         index: index_of(car),
         roots,
     };
-    let threads = at_most_processors(rt, LOADERS);
+    let threads = available_processors(rt);
     let summary = summary_of(rt, rt.alloc(), sections, threads)?;
     let memory = memory_for(car.len(), summary.sections);
     let object = summary_object(rt.alloc(), &described, &summary, memory)?;
@@ -271,7 +267,7 @@ fn text_of<R: AllocGlobal + Threads + Sync>(
     let mut text = String::from_str(alloc, version_of(car))?;
     push_roots(alloc, &mut text, &file)?;
     let CarFile { roots: _, sections } = file;
-    let threads = at_most_processors(rt, LOADERS);
+    let threads = available_processors(rt);
     let summary = summary_of(rt, alloc, sections, threads)?;
     push_summary(&mut text, &summary, car.len())?;
     Ok(text)
@@ -320,7 +316,7 @@ fn push_summary(text: &mut String, summary: &Summary, bytes: usize) -> Result<()
 }
 
 // Returns how many bytes of memory `get` and `jobs` take at most for the blocks of a file of so many bytes
-// and sections.
+// and sections, without prefetching.
 fn memory_for(bytes: usize, sections: usize) -> usize {
     bytes
         .saturating_add(sections.saturating_mul(SECTION_MEMORY))

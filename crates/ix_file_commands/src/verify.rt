@@ -13,7 +13,8 @@ use clap::error::ErrorKind as UsageKind;
 use ix_car::read_header;
 use ix_cli_io::{ANY_SIZE, Failure, Progress, ProgressMode, REFUSED, STANDARD_INPUT, size_of_all};
 use ix_options::{
-    Host, JSON, VERIFIERS, later_note, most_input, print_notes, print_refusal, progress_mode,
+    Host, JSON, VERIFIERS, available_processors, later_note, most_input, print_notes,
+    print_refusal, progress_mode,
 };
 use ix_store::Store;
 use ix_verify::{
@@ -53,7 +54,7 @@ struct VerifyCommand<'a> {
 /// Runs the command and returns the status. The files of `--with` are read first; if one is rejected, no other
 /// is verified. After a file that is rejected it goes on with the next.
 pub fn run<'a, R: Host>(rt: &R, words: &ArgMatches<'a>, is_terminal: bool) -> Result<u8, Failure> {
-    let command = VerifyCommand::read(rt.alloc(), words, is_terminal)?;
+    let command = VerifyCommand::read(rt.alloc(), words, available_processors(rt), is_terminal)?;
     if let Some(wanted) = &command.wanted
         && let Some(line) = wanted.refused(rt.alloc())
     {
@@ -123,10 +124,11 @@ impl<'a> VerifyCommand<'a> {
     fn read(
         alloc: Global,
         words: &ArgMatches<'a>,
+        processors: usize,
         is_terminal: bool,
     ) -> Result<VerifyCommand<'a>, Failure> {
         check_standard_input(alloc, words)?;
-        let threads = VERIFIERS.threads(words) as usize;
+        let threads = VERIFIERS.threads(words, processors) as usize;
         Ok(VerifyCommand {
             threads: NonZeroUsize::new(threads).unwrap_or(NonZeroUsize::MIN),
             scope: if BLOCKS_ONLY.is_given(words) {

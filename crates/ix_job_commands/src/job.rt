@@ -10,7 +10,7 @@ use ix_job_line::{JobWords, SelectorWord, job_line_up_to, jobs_of_words, selecto
 use ix_load::{BlockFiles, LoadedBlocks, RootPaths, Roots, SCOPE, Scope, Unresolved, forget_store};
 use ix_options::{
     ArgKind, ArgSpec, CARV2, CommandSpec, Host, MAX_INPUT, MAX_LIMIT, PREFER_SOUND, QUIET_ACCEPTED,
-    at_most_processors, most_input, print_answer, print_refusal,
+    available_processors, most_input, print_answer, print_refusal,
 };
 use std::alloc::{AllocError, Global};
 
@@ -62,9 +62,6 @@ const BLOCKS: ArgSpec = ArgSpec {
 
 const TOO_DEEP: &str = "ROOT and JSON: the path and the selector at its end nest more than 128 \
 deep together";
-
-// The most threads that load blocks. There are no more than processors.
-const LOADERS: usize = 8;
 
 /// The command.
 pub static SPEC: CommandSpec = CommandSpec {
@@ -180,7 +177,7 @@ fn load<'a, R: Host>(rt: &R, words: &ArgMatches<'a>) -> Result<LoadedBlocks, Fai
         return Err(Failure::from(error));
     }
     let progress = Progress::new(rt, ProgressMode::Off);
-    let loaders = at_most_processors(rt, LOADERS);
+    let loaders = available_processors(rt);
     let bytes = files.read(rt, loaders, &progress)?;
     files.store_of(rt, bytes, loaders)
 }

@@ -35,17 +35,30 @@ pub struct BlockFiles<'a> {
     is_base: bool,
 }
 
+// The tables of prefetched jobs may take the bytes of the files divided by this, and so many bytes more.
+const TABLE_DIVISOR: usize = 8;
+
+const TABLE_EXTRA: usize = 16 * 1024 * 1024;
+
 /// The settled store of a command's blocks.
 #[derive(Drop)]
 pub struct LoadedBlocks {
     pub store: Arc<Store>,
     /// The positions in it of the blocks that the receiver has, if that is given.
     pub known: Option<PlaceSet>,
+    // How many bytes the files have.
+    size: usize,
     // How many blocks are a later copy, since the first isn't sound.
     later_count: usize,
 }
 
 impl LoadedBlocks {
+    /// Returns how many bytes the tables of prefetched jobs may take together: an eighth of those of the
+    /// files, and 16 MiB.
+    pub(crate) fn most_table_bytes(&self) -> usize {
+        (self.size / TABLE_DIVISOR).saturating_add(TABLE_EXTRA)
+    }
+
     /// Prints how many blocks are a later copy, if any are and the run wasn't rejected.
     pub fn print_note<R: AllocGlobal + Eprint>(&self, rt: &R, status: &Result<u8, Failure>) {
         if status.is_ok() && self.later_count > 0 {
@@ -85,10 +98,11 @@ impl Loader {
         }
     }
 
-    // Returns the settled store of all files.
+    // Returns the settled store of all files, which have so many bytes.
     fn finish<R: AllocGlobal + Threads + Sync>(
         self,
         rt: &R,
+        size: usize,
         threads: usize,
     ) -> Result<LoadedBlocks, AllocError> {
         let (store, later_count) = match self {
@@ -101,6 +115,7 @@ impl Loader {
         Ok(LoadedBlocks {
             store: Arc::new(rt.alloc(), store)?,
             known: None,
+            size,
             later_count,
         })
     }
@@ -229,14 +244,16 @@ impl<'a> BlockFiles<'a> {
     ) -> Result<LoadedBlocks, Failure> {
         let alloc = rt.alloc();
         let mut loader = self.new_loader(alloc);
+        let mut size: usize = 0;
         for (path, bytes) in self.paths.iter().zip(files) {
+            size = size.saturating_add(bytes.len());
             let kind = kind_of(bytes.as_slice());
             match self.with_file(rt, loader, bytes, threads) {
                 Ok(more) => loader = more,
                 Err(fault) => return Err(self.refusal(alloc, path, fault, kind)),
             }
         }
-        loader.finish(rt, threads).map_err(Failure::from)
+        loader.finish(rt, size, threads).map_err(Failure::from)
     }
 
     // Creates the loader that is asked for.

@@ -14,6 +14,7 @@ mod blocks;
 mod export;
 mod known;
 mod paths;
+mod prefetching;
 mod roots;
 mod segments;
 mod threads;
@@ -22,6 +23,7 @@ pub use blocks::{BlockFiles, LoadedBlocks};
 pub use export::{allowed_missing, forget_store};
 pub use known::{KnownInputs, refused_inputs};
 pub use paths::{RootPaths, Unresolved, obstacle_line, path_of};
+pub use prefetching::Prefetching;
 pub use roots::{
     NoJobs, RootWords, Roots, SCOPE, SELECTOR, SELECTOR_HEX, SOME_ROOT, Scope, no_jobs, no_roots,
     refused_roots, roots_note, roots_text,

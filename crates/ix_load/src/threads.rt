@@ -5,11 +5,14 @@ ghost use Rattle.std.specs.Arc.{arc_value};
 ghost use Rattle.ix_run.specs.Run.{CanRun};
 
 use crate::blocks::LoadedBlocks;
+use crate::prefetching::Prefetching;
 use clap::ArgMatches;
 use ix_cli_io::Progress;
 use ix_jobs::{AllowMissing, JobResult, report_with_absent, separate_absent, status};
-use ix_options::{VERIFIERS, WALKERS, at_most_processors};
-use ix_pipeline::Plan;
+use ix_options::{
+    VERIFIERS, VERIFIERS_4, WALKERS, WALKERS_4, at_most_processors, available_processors,
+};
+use ix_pipeline::{Plan, Prefetch};
 use ix_run::{RunFault, RunInput, Unobserved, run_observed};
 use ix_walk::Job;
 use std::alloc::{AllocError, Global};
@@ -24,11 +27,18 @@ const QUEUE: u32 = 1024;
 
 const LANE: u32 = 256;
 
-/// How many threads walk and hash in a run: 1 to 64 of each.
+// How many threads walk, and how many hash, where the processors don't decide.
+const USUAL: usize = 4;
+
+// How many threads prefetch at least. One alone makes no table.
+const FEWEST: usize = 2;
+
+/// How many threads walk and hash in a run, 1 to 64 of each, and whether they prefetch.
 #[derive(Clone, Copy)]
 pub struct ThreadCounts {
     walkers: u32,
     verifiers: u32,
+    prefetching: Prefetching,
     ghost few_walkers: { (1 ≤ walkers) × (walkers ≤ 64) },
     ghost few_verifiers: { (1 ≤ verifiers) × (verifiers ≤ 64) },
 }
@@ -72,11 +82,42 @@ impl RunReport {
 }
 
 impl ThreadCounts {
-    /// Returns the numbers that were given.
-    pub fn given<'a>(words: &ArgMatches<'a>) -> ThreadCounts {
-        let walkers = WALKERS.threads(words);
-        let verifiers = VERIFIERS.threads(words);
-        ThreadCounts { walkers, verifiers }
+    /// Returns the numbers that were given, or 4 of each.
+    pub fn given<'a>(words: &ArgMatches<'a>, prefetching: Prefetching) -> ThreadCounts {
+        ThreadCounts {
+            walkers: WALKERS_4.threads(words, USUAL),
+            verifiers: VERIFIERS_4.threads(words, USUAL),
+            prefetching,
+        }
+    }
+
+    /// Returns the numbers that were given, or those by this number of processors: half of them walk, or two of two or
+    /// three, so that one job is prefetched; and all but one hash, since one job has one walker.
+    pub fn by_processors<'a>(
+        words: &ArgMatches<'a>,
+        processors: usize,
+        prefetching: Prefetching,
+    ) -> ThreadCounts {
+        let walkers = (processors / 2).max(processors.min(2));
+        let verifiers = processors.saturating_sub(1);
+        ThreadCounts {
+            walkers: WALKERS.threads(words, walkers),
+            verifiers: VERIFIERS.threads(words, verifiers),
+            prefetching,
+        }
+    }
+
+    // Returns how this many jobs over these blocks are prefetched, if they are.
+    fn prefetch<R: Threads>(&self, rt: &R, blocks: &LoadedBlocks, jobs: usize) -> Option<Prefetch> {
+        let walkers = self.walkers as usize;
+        let processors = available_processors(rt);
+        if !self.prefetching.is_on(jobs, walkers, processors) {
+            return None;
+        }
+        Some(Prefetch {
+            threads: self.loaders(rt).max(FEWEST),
+            most_bytes: blocks.most_table_bytes(),
+        })
     }
 
     /// Returns how many threads index the blocks: as many as walk and hash, but no more than processors.
@@ -106,6 +147,7 @@ impl ThreadCounts {
                 queue: QUEUE,
                 lane: LANE,
             },
+            prefetch: self.prefetch(rt, blocks, jobs.len()),
         };
         let ran = if progress.is_shown() {
             progress.begin(jobs.len());

@@ -35,6 +35,8 @@ pub enum ArgKind {
     ManyWithout(&'static str, &'static str),
     /// An option with a number from 1 to 64. The default is 4.
     Number,
+    /// The same, where the default depends on the processors.
+    NumberByProcessors,
     /// An option with a number from 1 to 4294967295. The default is 1000000.
     Limit,
     /// A flag.
@@ -102,18 +104,39 @@ pub const PREFER_SOUND: ArgSpec = ArgSpec {
     help: "Use the first sound copy of a block, if any is",
 };
 
-/// The number of walkers.
+/// The number of walkers, where the default depends on the processors.
 pub const WALKERS: ArgSpec = ArgSpec {
+    name: "walkers",
+    given: ArgKind::NumberByProcessors,
+    help: "Threads to traverse, 1 to 64 [default: by cores]",
+};
+
+/// The number of verifiers in the same way.
+pub const VERIFIERS: ArgSpec = ArgSpec {
+    name: "verifiers",
+    given: ArgKind::NumberByProcessors,
+    help: "Threads to hash, 1 to 64 [default: by cores]",
+};
+
+/// The number of walkers, 4 by default.
+pub const WALKERS_4: ArgSpec = ArgSpec {
     name: "walkers",
     given: ArgKind::Number,
     help: "Threads that traverse, 1 to 64",
 };
 
-/// The number of verifiers.
-pub const VERIFIERS: ArgSpec = ArgSpec {
+/// The number of verifiers, 4 by default.
+pub const VERIFIERS_4: ArgSpec = ArgSpec {
     name: "verifiers",
     given: ArgKind::Number,
     help: "Threads that hash, 1 to 64",
+};
+
+/// Whether all threads expand blocks before the walkers start, at the commands that export.
+pub const PREFETCH: ArgSpec = ArgSpec {
+    name: "prefetch",
+    given: ArgKind::Optional("WHEN"),
+    help: "Expand by all threads first: auto, on or off",
 };
 
 /// The greatest limit of a job, at the commands that read or write lines of a job file.
@@ -212,11 +235,13 @@ impl ArgSpec {
         words.get_flag(self.name)
     }
 
-    /// Returns the number of threads that was given. The command line accepts only 1 to 64.
-    pub fn threads<'a>(&self, words: &ArgMatches<'a>) -> u32
+    /// Returns the number of threads that was given, or this default, but 1 at least and 64 at most. The
+    /// command line accepts only 1 to 64.
+    pub fn threads<'a>(&self, words: &ArgMatches<'a>, default: usize) -> u32
         ensures { (1 ≤ result) × (result ≤ 64) }
     {
-        words.get_one(self.name).unwrap_or(4).clamp(1, 64)
+        let default = default.clamp(1, 64) as u32;
+        words.get_one(self.name).unwrap_or(default).clamp(1, 64)
     }
 
     /// Returns the greatest limit that was given, or its default.
@@ -269,7 +294,8 @@ fn argument_of<'a>(alloc: Global, row: &'static ArgSpec) -> Result<Arg<'a>, Allo
         }
         ArgKind::OptionalMany(value) => Ok(options(alloc, row, value)),
         ArgKind::ManyWithout(value, other) => options(alloc, row, value).conflicts_with(other),
-        ArgKind::Number => Ok(number(alloc, row)),
+        ArgKind::Number => Ok(number(alloc, row).default_value("4")),
+        ArgKind::NumberByProcessors => Ok(number(alloc, row)),
         ArgKind::Limit => Ok(limit(alloc, row)),
         ArgKind::Flag => Ok(flag(alloc, row)),
         ArgKind::FlagWithout(other) => flag(alloc, row).conflicts_with(other),
@@ -306,9 +332,7 @@ fn options<'a>(alloc: Global, row: &'static ArgSpec, value: &'static str) -> Arg
 
 // An option with a number.
 fn number<'a>(alloc: Global, row: &'static ArgSpec) -> Arg<'a> {
-    option(alloc, row, "N")
-        .value_parser(value_parser!(u32).range(1..65))
-        .default_value("4")
+    option(alloc, row, "N").value_parser(value_parser!(u32).range(1..65))
 }
 
 // An option with a limit.

@@ -13,8 +13,8 @@ use ix_cli_io::{
 };
 use ix_load::{BlockFiles, LoadedBlocks, NoJobs, allowed_missing};
 use ix_options::{
-    Host, JSON, NO_SYNC, QUIET, Terminals, at_most_processors, given_size, output_path,
-    print_refusal, progress_mode,
+    Host, JSON, NO_SYNC, QUIET, Terminals, at_most_processors, available_processors, given_size,
+    output_path, print_refusal, progress_mode,
 };
 use ix_own_archive::{AllowMissing, ExpectedHeader};
 use ix_store::Store;
@@ -26,9 +26,6 @@ use std::num::NonZeroUsize;
 
 // The status of a stream that isn't accepted, or whose archive can't be written.
 const NOT_RECEIVED: u8 = 4;
-
-// How many threads read the files of the base at most.
-const LOADERS: usize = 8;
 
 // How many threads hash sections at most.
 const HASHERS: usize = 8;
@@ -139,7 +136,7 @@ impl<'a> ReceiveCommand<'a> {
         if self.base.paths().is_empty() {
             return Ok(None);
         }
-        let threads = at_most_processors(rt, LOADERS);
+        let threads = available_processors(rt);
         let progress = Progress::new(rt, self.progress);
         let files = self.base.read(rt, threads, &progress)?;
         let blocks = self.base.store_of(rt, files, threads)?;
