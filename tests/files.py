@@ -161,7 +161,7 @@ def failing_calls(runner):
 
 def killed(runner):
     """The program is killed before each of its calls, and the next run is right."""
-    for command in ("get", "receive", "jobs", "jobs --sync"):
+    for command in ("get", "get --prefetch on", "receive", "jobs", "jobs --sync", "jobs --prefetch on"):
         total = sum(runner.counts(command, False).values())
         for number in range(1, total + 1):
             what = f"{command}, killed at call {number}"

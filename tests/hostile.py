@@ -154,23 +154,23 @@ class Runner:
         for name in ("archives", "inputs"):
             (room / name).mkdir()
 
-    def begin(self, threads, verifiers=None):
+    def begin(self, threads, verifiers=None, prefetch="auto"):
         """Begins a run with an empty output folder; answers its command."""
         self.runs += 1
         shutil.rmtree(self.room / "out", ignore_errors=True)
         (self.room / "out").mkdir()
         words = [PROGRAM, "jobs", "--blocks", "blocks.car", "--jobs", "jobs.txt", "--out", "out"]
-        return words + ["--walkers", str(threads), "--verifiers", str(verifiers or threads)]
+        return words + ["--walkers", str(threads), "--verifiers", str(verifiers or threads), "--prefetch", prefetch]
 
     def put(self, car, jobs):
         """Writes the two files of the runs that follow."""
         (self.room / "blocks.car").write_bytes(car)
         (self.room / "jobs.txt").write_bytes(jobs)
 
-    def run(self, car, jobs, threads=1):
+    def run(self, car, jobs, threads=1, prefetch="auto"):
         """Runs the jobs over the blocks; answers status, report and line of refusal."""
         self.put(car, jobs)
-        words = self.begin(threads)
+        words = self.begin(threads, prefetch=prefetch)
         try:
             done = subprocess.run(words, cwd=self.room, capture_output=True, timeout=SECONDS_A_RUN)
         except subprocess.TimeoutExpired:
@@ -337,8 +337,8 @@ def wide_blocks(runner):
     itself = cid(DAG_CBOR, b"")
     block = list_of([link(itself)] * 20_000)
     blocks = NO_ROOTS + section(itself, block)
-    for threads in (4, 1):
-        came = runner.run(blocks, f"a {text(itself)} 100000 {ALL}\n".encode(), threads)
+    for threads, prefetch in ((4, "off"), (4, "on"), (1, "off"), (1, "on")):
+        came = runner.run(blocks, f"a {text(itself)} 100000 {ALL}\n".encode(), threads, prefetch)
         if came[0] != 4 or not came[1].startswith("a limit visits=100000 kept=1 sections=0 "):
             raise Wrong(f"100,000 visits were wanted: {came[1][:80]!r}")
     if (most := runner.measure()["peak"]) > len(blocks) + 64 * MIB:
@@ -770,7 +770,8 @@ def graph(chance):
 
 
 def fuzz(runner, seed, runs):
-    """Mutations of graphs by chance, by four walkers and four verifiers; of each kind as many runs."""
+    """Mutations of graphs by chance, by four walkers and four verifiers, with prefetching, without it and as the program
+    chooses in turn; of each kind as many runs."""
     for number in range(runs):
         chance = random.Random(f"{seed}-{number}")
         blocks, jobs = graph(chance)
@@ -782,7 +783,7 @@ def fuzz(runner, seed, runs):
             jobs = mutated(chance, jobs, words)
         (runner.room / f"inputs/{number}.car").write_bytes(blocks)
         try:
-            runner.run(blocks, jobs, 4)
+            runner.run(blocks, jobs, 4, ("auto", "on", "off")[number % 3])
         except Wrong as wrong:
             raise Wrong(f"seed {seed}-{number}: {wrong}") from None
 

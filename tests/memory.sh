@@ -163,7 +163,7 @@ each_request() {
 each_start() {
   local all=$(((1 << $1) - 1)) set name
   for ((set = 0; set < 1 << 2 * $1; set++)); do
-    run 0 "$set" "${words[@]}" --walkers "$1" --verifiers "$1"
+    run 0 "$set" "${words[@]}" --walkers "$1" --verifiers "$1" --prefetch off
     judge_jobs
     for name in "${jobs[@]}"; do
       if ((set >> $1 == all || (set & all) == all)); then
@@ -175,13 +175,26 @@ each_start() {
   done
 }
 
+# Each of the first starts of a run that prefetches fails, and each two of them: of its threads, of verifiers or of walkers.
+each_start_prefetched() {
+  local first second
+  for first in $(seq 0 9); do
+    for second in $(seq "$first" 9); do
+      run 0 $((1 << first | 1 << second)) "${words[@]}" --walkers 2 --verifiers 2 --prefetch on
+      judge_jobs
+    done
+  done
+}
+
 # each_of FILE_OF_BLOCKS FILE_OF_JOBS WANTED JOB..: both for the jobs, whose archives lie in the folder WANTED.
 each_of() {
   wanted=$3 jobs=("${@:4}")
   words=(jobs --blocks "$1" --jobs "$2" --out out)
   each_start 1
   each_start 2
-  each_request judge_jobs "${words[@]}" --walkers 2 --verifiers 2
+  each_request judge_jobs "${words[@]}" --walkers 2 --verifiers 2 --prefetch off
+  each_request judge_jobs "${words[@]}" --walkers 2 --verifiers 2 --prefetch on
+  each_start_prefetched
 }
 
 : >input
@@ -196,8 +209,10 @@ for ((set = 0; set < 4; set++)); do
   [ "$status" = "$([ "$set" = 0 ] && echo 3 || echo 4)" ] || fail 'another status'
 done
 each_request judge_get "${words[@]}" --out out/a.car
+each_request judge_get "${words[@]}" --prefetch on --out out/a.car
 each_request judge_get "${words[@]}" --prefer-sound --out out/a.car
 each_request judge_stream "${words[@]}"
+each_request judge_stream "${words[@]}" --prefetch on
 root=bafyreigiavswv62tcfji62na4ecatawlzg33sy6uezl5lj3g56mxdhbnmq
 cat >paths.wanted <<END
 get done visits=10 kept=10 sections=6 bytes=784
@@ -298,7 +313,7 @@ wanted=chain jobs=(first a b)
 words=(jobs --blocks blocks.car --jobs jobs.txt --out out)
 for number in $(seq 20); do
   held=0:$number
-  run 0 0 "${words[@]}" --walkers 1 --verifiers 1
+  run 0 0 "${words[@]}" --walkers 1 --verifiers 1 --prefetch off
   judge_jobs
   expect_text 'the report' "first $one_line
 a done visits=4 kept=4 sections=4 bytes=336
@@ -309,7 +324,8 @@ held=
 each_start 1
 each_start 2
 for threads in 1 2; do
-  each_request judge_jobs "${words[@]}" --walkers "$threads" --verifiers "$threads"
+  each_request judge_jobs "${words[@]}" --walkers "$threads" --verifiers "$threads" --prefetch off
+  each_request judge_jobs "${words[@]}" --walkers "$threads" --verifiers "$threads" --prefetch on
 done
 
 # Which checks an export hands back, and that nothing was checked where its jobs end with start: the test that says so, with

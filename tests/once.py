@@ -1,9 +1,9 @@
 #!/usr/bin/env python3
-"""Runs jobs at every arrival and with --once, and compares both with a model of the two traversals: the reports line by line,
-the archives byte for byte. Where a job is at its limit neither way, both archives are the same. The jobs are random ones over
-random graphs, in which blocks are shared, damaged, missing and malformed; those of the runs and walks in
-crates/ix_cases/data, of which the archives alone are compared; and one over 200,000 blocks with ten ways to each. Ends with
-status 1 at the first run that is wrong.
+"""Runs jobs at every arrival and with --once, each without prefetching and with it, and compares all with a model of the two
+traversals: the reports line by line, the archives byte for byte. Where a job is at its limit neither way, both archives are
+the same. The jobs are random ones over random graphs, in which blocks are shared, damaged, missing and malformed; those of the
+runs and walks in crates/ix_cases/data, of which the archives alone are compared; and one over 200,000 blocks with ten ways to
+each. Ends with status 1 at the first run that is wrong.
 """
 
 import argparse
@@ -24,6 +24,8 @@ from hostile import Wrong, cid, cid_of, head, header, read_cid, read_varint, sec
 
 DAG_PB, BLAKE3 = 0x70, 0x1E
 WAYS = ((), ("--once",))
+# Each way without prefetching and with it: the reports, statuses and archives are the same.
+PREFETCH = (("--prefetch", "off"), ("--prefetch", "on"))
 
 
 class Link:
@@ -245,27 +247,34 @@ def compare(room, graph, jobs):
     """Runs the jobs, each a name, a selector with its places, roots, a limit and its line, both ways."""
     ends, archives = [], []
     for way in WAYS:
-        report, status, out = run(room, graph.car(), [job[-1] for job in jobs], way)
-        wanted, ended, came = [], [], []
-        for name, selector, roots, limit, line in jobs:
-            end, lines, archive = told(graph, name, selector, roots, limit, "--once" in way)
-            wanted += lines
-            ended.append(end)
-            came.append((out / f"{name}.car").read_bytes())
-            if came[-1] != archive:
-                raise Wrong(f"another archive {' '.join(way)} of the job {line}, over {graph.car().hex()}")
-        skips = sum(line.startswith("  ") for line in wanted)
-        wanted.append(f"total jobs={len(jobs)} done={ended.count('done')} skips={skips}")
-        if report != wanted:
-            raise Wrong(f"{report} came {' '.join(way)} and {wanted} was wanted of the jobs {jobs}, over {graph.car().hex()}")
-        if status != (4 if "limit" in ended else 3 if skips else 0):
-            raise Wrong(f"status {status} {' '.join(way)}, over {graph.car().hex()}")
+        for prefetch in PREFETCH:
+            ended, came = compare_one(room, graph, jobs, way + prefetch)
         ends.append(ended)
         archives.append(came)
     for job, first, second, every, once in zip(jobs, *ends, *archives):
         if first == second == "done" and every != once:
             raise Wrong(f"the archives of the job {job[-1]} differ, over {graph.car().hex()}")
     return sum(first == second == "done" for first, second in zip(*ends))
+
+
+def compare_one(room, graph, jobs, way):
+    """The same one way; answers how each job ended, and its archive."""
+    report, status, out = run(room, graph.car(), [job[-1] for job in jobs], way)
+    wanted, ended, came = [], [], []
+    for name, selector, roots, limit, line in jobs:
+        end, lines, archive = told(graph, name, selector, roots, limit, "--once" in way)
+        wanted += lines
+        ended.append(end)
+        came.append((out / f"{name}.car").read_bytes())
+        if came[-1] != archive:
+            raise Wrong(f"another archive {' '.join(way)} of the job {line}, over {graph.car().hex()}")
+    skips = sum(line.startswith("  ") for line in wanted)
+    wanted.append(f"total jobs={len(jobs)} done={ended.count('done')} skips={skips}")
+    if report != wanted:
+        raise Wrong(f"{report} came {' '.join(way)} and {wanted} was wanted of the jobs {jobs}, over {graph.car().hex()}")
+    if status != (4 if "limit" in ended else 3 if skips else 0):
+        raise Wrong(f"status {status} {' '.join(way)}, over {graph.car().hex()}")
+    return ended, came
 
 
 # Random graphs.
@@ -430,7 +439,12 @@ def worked_examples(room, seed, graphs):
     for sections, lines in examples():
         statuses, done = [], []
         for way in WAYS:
-            report, status, out = run(room, NO_ROOTS + b"".join(sections), lines, way, (0, 2, 3, 4))
+            answers = []
+            for prefetch in PREFETCH:
+                report, status, out = run(room, NO_ROOTS + b"".join(sections), lines, way + prefetch, (0, 2, 3, 4))
+                answers.append((report, status, {file.name: file.read_bytes() for file in out.iterdir()}))
+            if answers[0] != answers[1]:
+                raise Wrong(f"{lines} differ {' '.join(way)} without prefetching and with it, over {b''.join(sections).hex()}")
             ended = [line.split(" ")[0] for line in report if " done " in line]
             statuses.append(report if status == 2 else None)
             done.append({name: (out / f"{name}.car").read_bytes() for name in ended})
@@ -462,16 +476,17 @@ def ten_ways(room, seed, graphs):
     lists = [add(DAG_CBOR, encoded([number, Link(level[0])])) for number in range(10)]
     root = add(DAG_CBOR, encoded([Link(key) for key in lists]))
     blocks = len(graph.blocks)
-    report, _, out = run(room, graph.car(), [f"ways {text(root)} 1000000 {ALL}"], ("--once",))
-    archive = (out / "ways.car").read_bytes()
-    wanted = f"ways done visits={blocks + 9} kept={blocks + 9} sections={blocks} bytes={len(archive)}"
-    if report[0] != wanted:
-        raise Wrong(f"{wanted} was wanted, {report[0]} came")
-    if archive[: len(header([root]))] != header([root]) or sections_of(archive, len(header([root]))) != sorted(graph.sections):
-        raise Wrong("the archive hasn't each block once")
-    report, *_ = run(room, graph.car(), [f"ways {text(root)} 1000000 {ALL}"], ())
-    if not report[0].startswith("ways limit visits=1000000 "):
-        raise Wrong(f"the limit was wanted at every arrival, {report[0]} came")
+    for prefetch in PREFETCH:
+        report, _, out = run(room, graph.car(), [f"ways {text(root)} 1000000 {ALL}"], ("--once", *prefetch))
+        archive = (out / "ways.car").read_bytes()
+        wanted = f"ways done visits={blocks + 9} kept={blocks + 9} sections={blocks} bytes={len(archive)}"
+        if report[0] != wanted:
+            raise Wrong(f"{wanted} was wanted, {report[0]} came")
+        if archive[: len(header([root]))] != header([root]) or sections_of(archive, len(header([root]))) != sorted(graph.sections):
+            raise Wrong("the archive hasn't each block once")
+        report, *_ = run(room, graph.car(), [f"ways {text(root)} 1000000 {ALL}"], prefetch)
+        if not report[0].startswith("ways limit visits=1000000 "):
+            raise Wrong(f"the limit was wanted at every arrival, {report[0]} came")
     return f"{blocks} blocks with ten ways to each"
 
 

@@ -36,7 +36,12 @@ verify_archives() {
 # The same with standard output and standard error as the caller has them.
 run_bare() {
   status=0
-  "$top/ix_export" "$@" || status=$?
+  local program=$top/ix_export words=("$@")
+  if [ -n "${prefetch-}" ] && [[ ${1-} == @(get|jobs) ]]; then
+    program=$taken
+    [[ " $* " == *' --prefetch '* ]] || words=("$1" --prefetch "$prefetch" "${@:2}")
+  fi
+  "$program" "${words[@]}" || status=$?
 }
 
 # run_with_room KIB WORD..: no file can be longer than so many KiB. A write beyond fails.

@@ -71,10 +71,10 @@ helps() {
 helps --help -- get root jobs selector CARv1 SHA-256 SHA-512 identity UnixFS --version 'Usage: ix_export <COMMAND>'
 helps -h -- get root jobs selector
 helps root --help -- '--cid <TEXT>' hex 'Standard input' 'Status: 0'
-helps get --help -- --no-sync '--blocks <FILE>' '--root <ROOT[,..]>' '--scope <SCOPE>' '--segment <NAME>' '--selector <JSON>' '--selector-hex <HEX>' \
+helps get --help -- --no-sync '--prefetch <WHEN>' 'by cores' '--blocks <FILE>' '--root <ROOT[,..]>' '--scope <SCOPE>' '--segment <NAME>' '--selector <JSON>' '--selector-hex <HEX>' \
   '--without <FILE>' '--without-list <FILE>' '1 to 4294967295' 'with --every-arrival up to 1000000' FILE.part 'standard output' 'Status: 0' docs/SELECTORS.md
 helps jobs --help -- 'NAME ROOTS LIMIT SELECTOR' '--blocks <FILE>' '--jobs <FILE>' '--out <DIR>' '--walkers <N>' \
-  '--verifiers <N>' '1 to 64' 'default: 4' "$abc_text 9 $matcher" 1000000 DIR/NAME.car damaged 'Status: 0' --max-input 'default: 1G' \
+  '--verifiers <N>' '1 to 64' 'default: 4' '--prefetch <WHEN>' "$abc_text 9 $matcher" 1000000 DIR/NAME.car damaged 'Status: 0' --max-input 'default: 1G' \
   '--without-list <FILE>' DIR/NAME.car.part --sync --progress 'counts twice' SHA-256 SHA-512 identity 'the command `selector`'
 helps inspect --help -- --list --cids --without-list
 helps selector --help -- '--hex <TEXT>' '[JSON]' '{"R":{"l":{"none":{}},":>":{"a":{">":{"@":{}}}}}}' docs/SELECTORS.md
