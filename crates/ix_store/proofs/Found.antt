@@ -7,7 +7,7 @@ use Rattle.std.proofs.lemmas.List.{drop_more}
 use Rattle.std.proofs.Math.ListN.{drop_of_length-le}
 use Rattle.std.proofs.lemmas.Option.{none-some, slice_get_within}
 use Rattle.ix_store.specs.Store.{Blocks, has_cid, HasDistinctCids, position_of}
-use Rattle.ix_store.specs.Index.{key_hash, fingerprint, window_of, Has, IsFree, IsTaken, Leads, AreTaken, place_after, IsIndexed, IsTrueAfter, is_cid_of, is_cid_at, probe_of}
+use Rattle.ix_store.specs.Index.{key_hash, fingerprint, window_of, Has, IsFree, IsTaken, Leads, AreTaken, place_after, end_of, IsIndexed, IsTrueAfter, is_cid_of, is_cid_at, probe_of}
 use Rattle.ix_store.specs.declared.index.Slot.{Slot}
 use Rattle.ix_store.specs.declared.index.Probe.{Probe}
 use Rattle.ix_store.specs.declared.index.Probe.TheVariants.{At, Free, Full}
@@ -34,35 +34,35 @@ probe-leads : (blocks : Blocks) (l : List Slot) (b : Option ℕ) (m : ℕ) (c : 
 probe-leads blocks [] b m c p h = absurd cc
 probe-leads blocks (slot ∷ l) b m c p h =
     ⊎_elim
-    (λ (free : eqb slot.end 0 ≡ true). let e : Free ≡ At p = sym (ap (λ v. cond v Free (cond (eqb slot.tag m && is_cid_at blocks (slot.end - 1) c) (At (slot.end - 1)) (probe_of blocks l m c))) free) ∙ h in absurd cc)
-    (λ (taken : eqb slot.end 0 ≡ false).
-    let on : cond (eqb slot.tag m && is_cid_at blocks (slot.end - 1) c) (At (slot.end - 1)) (probe_of blocks l m c) ≡ At p = sym (ap (λ v. cond v Free (cond (eqb slot.tag m && is_cid_at blocks (slot.end - 1) c) (At (slot.end - 1)) (probe_of blocks l m c))) taken) ∙ h in
+    (λ (free : eqb (end_of slot) 0 ≡ true). let e : Free ≡ At p = sym (ap (λ v. cond v Free (cond (eqb slot.tag m && is_cid_at blocks (end_of slot - 1) c) (At (end_of slot - 1)) (probe_of blocks l m c))) free) ∙ h in absurd cc)
+    (λ (taken : eqb (end_of slot) 0 ≡ false).
+    let on : cond (eqb slot.tag m && is_cid_at blocks (end_of slot - 1) c) (At (end_of slot - 1)) (probe_of blocks l m c) ≡ At p = sym (ap (λ v. cond v Free (cond (eqb slot.tag m && is_cid_at blocks (end_of slot - 1) c) (At (end_of slot - 1)) (probe_of blocks l m c))) taken) ∙ h in
     let some : IsTaken slot = grind arith in
     ⊎_elim
-    (λ (here : (eqb slot.tag m && is_cid_at blocks (slot.end - 1) c) ≡ true).
-    let e : At (slot.end - 1) ≡ At p = sym (ap (λ v. cond v (At (slot.end - 1)) (probe_of blocks l m c)) here) ∙ on in
-    let at : slot.end - 1 ≡ p = cc in
+    (λ (here : (eqb slot.tag m && is_cid_at blocks (end_of slot - 1) c) ≡ true).
+    let e : At (end_of slot - 1) ≡ At p = sym (ap (λ v. cond v (At (end_of slot - 1)) (probe_of blocks l m c)) here) ∙ on in
+    let at : (end_of slot) - 1 ≡ p = cc in
     (some, inl (grind arith, omega (arith, some, at))))
-    (λ (other : (eqb slot.tag m && is_cid_at blocks (slot.end - 1) c) ≡ false).
-    (some, inr (probe-leads blocks l b m c p (sym (ap (λ v. cond v (At (slot.end - 1)) (probe_of blocks l m c)) other) ∙ on))))
-    (cases_Bool (eqb slot.tag m && is_cid_at blocks (slot.end - 1) c)))
-    (cases_Bool (eqb slot.end 0))
+    (λ (other : (eqb slot.tag m && is_cid_at blocks (end_of slot - 1) c) ≡ false).
+    (some, inr (probe-leads blocks l b m c p (sym (ap (λ v. cond v (At (end_of slot - 1)) (probe_of blocks l m c)) other) ∙ on))))
+    (cases_Bool (eqb slot.tag m && is_cid_at blocks (end_of slot - 1) c)))
+    (cases_Bool (eqb (end_of slot) 0))
 
 -- where a look-up sees neither, no slot is free
 probe-full : (blocks : Blocks) (l : List Slot) (m : ℕ) (c : List ℕ) → probe_of blocks l m c ≡ Full → AreTaken l
 probe-full blocks [] m c h = tt
 probe-full blocks (slot ∷ l) m c h =
     ⊎_elim
-    (λ (free : eqb slot.end 0 ≡ true). let e : Free ≡ Full = sym (ap (λ v. cond v Free (cond (eqb slot.tag m && is_cid_at blocks (slot.end - 1) c) (At (slot.end - 1)) (probe_of blocks l m c))) free) ∙ h in absurd cc)
-    (λ (taken : eqb slot.end 0 ≡ false).
-    let on : cond (eqb slot.tag m && is_cid_at blocks (slot.end - 1) c) (At (slot.end - 1)) (probe_of blocks l m c) ≡ Full = sym (ap (λ v. cond v Free (cond (eqb slot.tag m && is_cid_at blocks (slot.end - 1) c) (At (slot.end - 1)) (probe_of blocks l m c))) taken) ∙ h in
+    (λ (free : eqb (end_of slot) 0 ≡ true). let e : Free ≡ Full = sym (ap (λ v. cond v Free (cond (eqb slot.tag m && is_cid_at blocks (end_of slot - 1) c) (At (end_of slot - 1)) (probe_of blocks l m c))) free) ∙ h in absurd cc)
+    (λ (taken : eqb (end_of slot) 0 ≡ false).
+    let on : cond (eqb slot.tag m && is_cid_at blocks (end_of slot - 1) c) (At (end_of slot - 1)) (probe_of blocks l m c) ≡ Full = sym (ap (λ v. cond v Free (cond (eqb slot.tag m && is_cid_at blocks (end_of slot - 1) c) (At (end_of slot - 1)) (probe_of blocks l m c))) taken) ∙ h in
     let some : IsTaken slot = grind arith in
     ⊎_elim
-    (λ (here : (eqb slot.tag m && is_cid_at blocks (slot.end - 1) c) ≡ true). let e : At (slot.end - 1) ≡ Full = sym (ap (λ v. cond v (At (slot.end - 1)) (probe_of blocks l m c)) here) ∙ on in absurd cc)
-    (λ (other : (eqb slot.tag m && is_cid_at blocks (slot.end - 1) c) ≡ false).
-    (some, probe-full blocks l m c (sym (ap (λ v. cond v (At (slot.end - 1)) (probe_of blocks l m c)) other) ∙ on)))
-    (cases_Bool (eqb slot.tag m && is_cid_at blocks (slot.end - 1) c)))
-    (cases_Bool (eqb slot.end 0))
+    (λ (here : (eqb slot.tag m && is_cid_at blocks (end_of slot - 1) c) ≡ true). let e : At (end_of slot - 1) ≡ Full = sym (ap (λ v. cond v (At (end_of slot - 1)) (probe_of blocks l m c)) here) ∙ on in absurd cc)
+    (λ (other : (eqb slot.tag m && is_cid_at blocks (end_of slot - 1) c) ≡ false).
+    (some, probe-full blocks l m c (sym (ap (λ v. cond v (At (end_of slot - 1)) (probe_of blocks l m c)) other) ∙ on)))
+    (cases_Bool (eqb slot.tag m && is_cid_at blocks (end_of slot - 1) c)))
+    (cases_Bool (eqb (end_of slot) 0))
 
 -- a look-up that comes to a place is led there
 place-leads : (blocks : Blocks) (l : List Slot) (b : Option ℕ) (m : ℕ) (c : List ℕ) (p : ℕ) (s : Probe) → probe_of blocks l m c ≡ s → place_by s b ≡ Some p → Leads l b m p
@@ -79,30 +79,30 @@ pub probe-free : (blocks : Blocks) (l : List Slot) (n m : ℕ) (c : List ℕ) �
 probe-free blocks l n m c within vacant =
     let slot = get_or l n free in
     probe-from blocks l n m c within
-    ∙ ap (λ v. cond v Free (cond (eqb slot.tag m && is_cid_at blocks (slot.end - 1) c) (At (slot.end - 1)) (probe_of blocks (drop (n + 1) l) m c))) (eq-eqb slot.end 0 vacant)
+    ∙ ap (λ v. cond v Free (cond (eqb slot.tag m && is_cid_at blocks (end_of slot - 1) c) (At (end_of slot - 1)) (probe_of blocks (drop (n + 1) l) m c))) (eq-eqb (end_of slot) 0 vacant)
 
 -- at a slot with the place of the CID
 pub probe-here : (blocks : Blocks) (l : List Slot) (n m p : ℕ) (c : List ℕ) → n < length l → Has (get_or l n free) m p → is_cid_at blocks p c ≡ true → probe_of blocks (drop n l) m c ≡ At p
 probe-here blocks l n m p c within has is =
     let slot = get_or l n free in
-    let at : slot.end - 1 ≡ p = omega (arith, has.1) in
+    let at : (end_of slot) - 1 ≡ p = omega (arith, has.1) in
     probe-from blocks l n m c within
-    ∙ ap (λ v. cond v Free (cond (eqb slot.tag m && is_cid_at blocks (slot.end - 1) c) (At (slot.end - 1)) (probe_of blocks (drop (n + 1) l) m c))) (ne_eqb slot.end 0 (λ none. omega (arith, none, has.1)))
-    ∙ ap (λ v. cond (v && is_cid_at blocks (slot.end - 1) c) (At (slot.end - 1)) (probe_of blocks (drop (n + 1) l) m c)) (eq-eqb slot.tag m has.0)
+    ∙ ap (λ v. cond v Free (cond (eqb slot.tag m && is_cid_at blocks (end_of slot - 1) c) (At (end_of slot - 1)) (probe_of blocks (drop (n + 1) l) m c))) (ne_eqb (end_of slot) 0 (λ none. omega (arith, none, has.1)))
+    ∙ ap (λ v. cond (v && is_cid_at blocks (end_of slot - 1) c) (At (end_of slot - 1)) (probe_of blocks (drop (n + 1) l) m c)) (eq-eqb slot.tag m has.0)
     ∙ ap (λ q. cond (is_cid_at blocks q c) (At q) (probe_of blocks (drop (n + 1) l) m c)) at
     ∙ ap (λ v. cond v (At p) (probe_of blocks (drop (n + 1) l) m c)) is
 
 -- at a slot of another tag, or with the place of another CID, it goes on
-pub probe-on : (blocks : Blocks) (l : List Slot) (n m q : ℕ) (c : List ℕ) → n < length l → (get_or l n free).end ≡ q + 1 → ((get_or l n free).tag ≡ m → ⊥) ⊎ (is_cid_at blocks q c ≡ false) → probe_of blocks (drop (n + 1) l) m c ≡ probe_of blocks (drop n l) m c
+pub probe-on : (blocks : Blocks) (l : List Slot) (n m q : ℕ) (c : List ℕ) → n < length l → end_of (get_or l n free) ≡ q + 1 → ((get_or l n free).tag ≡ m → ⊥) ⊎ (is_cid_at blocks q c ≡ false) → probe_of blocks (drop (n + 1) l) m c ≡ probe_of blocks (drop n l) m c
 probe-on blocks l n m q c within has other =
     let slot = get_or l n free in
-    let at : slot.end - 1 ≡ q = omega (arith, has) in
-    let no : (eqb slot.tag m && is_cid_at blocks (slot.end - 1) c) ≡ false =
-    ⊎_elim (λ tag. ap (λ v. v && is_cid_at blocks (slot.end - 1) c) (ne_eqb slot.tag m tag))
+    let at : (end_of slot) - 1 ≡ q = omega (arith, has) in
+    let no : (eqb slot.tag m && is_cid_at blocks (end_of slot - 1) c) ≡ false =
+    ⊎_elim (λ tag. ap (λ v. v && is_cid_at blocks (end_of slot - 1) c) (ne_eqb slot.tag m tag))
     (λ cid. ap (λ q. eqb slot.tag m && is_cid_at blocks q c) at ∙ ap (λ v. eqb slot.tag m && v) cid ∙ and-false (eqb slot.tag m)) other in
     sym (probe-from blocks l n m c within
-    ∙ ap (λ v. cond v Free (cond (eqb slot.tag m && is_cid_at blocks (slot.end - 1) c) (At (slot.end - 1)) (probe_of blocks (drop (n + 1) l) m c))) (ne_eqb slot.end 0 (λ none. omega (arith, none, has)))
-    ∙ ap (λ v. cond v (At (slot.end - 1)) (probe_of blocks (drop (n + 1) l) m c)) no) where
+    ∙ ap (λ v. cond v Free (cond (eqb slot.tag m && is_cid_at blocks (end_of slot - 1) c) (At (end_of slot - 1)) (probe_of blocks (drop (n + 1) l) m c))) (ne_eqb (end_of slot) 0 (λ none. omega (arith, none, has)))
+    ∙ ap (λ v. cond v (At (end_of slot - 1)) (probe_of blocks (drop (n + 1) l) m c)) no) where
       and-false : (b : Bool) → (b && false) ≡ false
       and-false true = refl
       and-false false = refl

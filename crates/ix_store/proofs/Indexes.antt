@@ -13,7 +13,7 @@ use Rattle.std.proofs.Math.ListN.{set, drop_of_length-le}
 use Rattle.std.proofs.lemmas.Option.{none-some}
 use Rattle.std.proofs.lemmas.List.{drop-set-lt, drop-set-add, get_or-take, get_or-drop, drop_more, take_all}
 use Rattle.ix_store.specs.Store.{Blocks, has_cid, position_of}
-use Rattle.ix_store.specs.Index.{key_hash, fingerprint, first_of, window_of, IsFree, IsTaken, Has, HasPlace, IsLarge, Leads, Comes, AreTaken, IsFirstFree, place_after, AreLedTo, IsFreeSlot, GoesAfter, IsIndexed}
+use Rattle.ix_store.specs.Index.{key_hash, fingerprint, first_of, window_of, end_of, IsFree, IsTaken, Has, HasPlace, IsLarge, Leads, Comes, AreTaken, IsFirstFree, place_after, AreLedTo, IsFreeSlot, GoesAfter, IsIndexed}
 use Rattle.ix_store.specs.declared.index.Slot.{Slot}
 use Rattle.ix_store.specs.declared.index.Index.{Index}
 use Rattle.ix_store.proofs.Blocks.{place_within}
@@ -21,7 +21,7 @@ use Rattle.ix_store.proofs.Stores.{is_some-position, distinct-push, position-pus
 
 -- a free slot
 abbrev pub free : Slot
-free = record { tag = 0; end = 0 }
+free = record { tag = 0; end = [] }
 
 -- a slot without a place is free, and one with a place is taken
 pub free-by : (x : Slot) (o : Option ℕ) → HasPlace x o → is_some o ≡ false → IsFree x
@@ -174,7 +174,7 @@ pub none-small : (o b : Option ℕ) (n : ℕ) → ((p : ℕ) → o ≡ Some p �
 none-small o b n within small h = none-from o (λ p is. omega (arith, within p is, small, (h p is).0))
 
 -- a slot of another CID is passed
-pub passed-more : (l : List Slot) (n : ℕ) (b : Option ℕ) (m : ℕ) (o : Option ℕ) (q : ℕ) → Passed l n b m o → n < length l → (get_or l n free).end ≡ q + 1 → ((get_or l n free).tag ≡ m → o ≡ Some q → ⊥) → Passed l (n + 1) b m o
+pub passed-more : (l : List Slot) (n : ℕ) (b : Option ℕ) (m : ℕ) (o : Option ℕ) (q : ℕ) → Passed l n b m o → n < length l → end_of (get_or l n free) ≡ q + 1 → ((get_or l n free).tag ≡ m → o ≡ Some q → ⊥) → Passed l (n + 1) b m o
 passed-more l n b m o q h within at other =
     let next : drop n l ≡ get_or l n free ∷ drop (n + 1) l = drop_more l n free within in
     let one : suc n ≡ n + 1 = omega arith in
@@ -388,7 +388,7 @@ pub taken-all : (l : List Slot) (n : ℕ) → AreTaken (take n l) → length l �
 taken-all l n h past = subst (λ (r : List Slot). AreTaken r) (take_all n l past) h
 
 -- a look-up for another place continues after a taken slot
-pub leads-on : (l : List Slot) (n : ℕ) (b : Option ℕ) (m p q : ℕ) → (get_or l n free).end ≡ q + 1 → n < length l → (q ≡ p → ⊥) → Leads (drop n l) b m p → Leads (drop (n + 1) l) b m p
+pub leads-on : (l : List Slot) (n : ℕ) (b : Option ℕ) (m p q : ℕ) → end_of (get_or l n free) ≡ q + 1 → n < length l → (q ≡ p → ⊥) → Leads (drop n l) b m p → Leads (drop (n + 1) l) b m p
 leads-on l n b m p q at within other h =
     let on : Leads (get_or l n free ∷ drop (n + 1) l) b m p = subst (λ (r : List Slot). Leads r b m p) (drop_more l n free within) h in
     ⊎_elim (λ here. absurd (other (omega (arith, at, here.1)))) (λ later. later) on.1

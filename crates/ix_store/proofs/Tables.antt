@@ -5,7 +5,7 @@ use Rattle.std.proofs.Math.ListN.{set}
 use Rattle.std.proofs.lemmas.List.{length-append, length-map, length-drop, map-set, get_or-map, get_or_append_left, drop-append-le, take-append-le}
 use Rattle.std.proofs.lemmas.List.Edits.{swap_is}
 use Rattle.std.proofs.lemmas.List.Elements.{All-set, All-get_or}
-use Rattle.ix_store.specs.Table.{part_of, file_at, pair_in, file_in, cid_size_of, IsWithin, files_of, file_bytes, TableMeaning}
+use Rattle.ix_store.specs.Table.{part_of, file_at, pair_in, file_in, place_of, cid_size_of, block_size_of, IsWithin, files_of, file_bytes, TableMeaning}
 use Rattle.ix_store.specs.Store.{Blocks}
 use Rattle.ix_store.specs.declared.table.File.{File}
 use Rattle.ix_store.specs.declared.table.Entry.{Entry}
@@ -52,12 +52,12 @@ pair-kept : (old new : List (List ℕ)) (e : Entry) → Grows old new → IsWith
 pair-kept old new e grows within =
     let file = file_at old (file_in e) in
     let more = (grows (file_in e) within.0).1 in
-    let cid : part_of (file_at new (file_in e)) e.place (cid_size_of e) ≡ part_of file e.place (cid_size_of e) =
-    ap (λ (f : List ℕ). part_of f e.place (cid_size_of e)) more.1 ∙ part-kept file more.0 e.place (cid_size_of e) (omega (arith, within.1)) in
-    let block : part_of (file_at new (file_in e)) (e.place + cid_size_of e) e.size ≡ part_of file (e.place + cid_size_of e) e.size =
-    ap (λ (f : List ℕ). part_of f (e.place + cid_size_of e) e.size) more.1 ∙ part-kept file more.0 (e.place + cid_size_of e) e.size within.1 in
-    ap (λ (c : List ℕ). (c, part_of (file_at new (file_in e)) (e.place + cid_size_of e) e.size)) cid
-    ∙ ap (λ (b : List ℕ). (part_of file e.place (cid_size_of e), b)) block
+    let cid : part_of (file_at new (file_in e)) (place_of e) (cid_size_of e) ≡ part_of file (place_of e) (cid_size_of e) =
+    ap (λ (f : List ℕ). part_of f (place_of e) (cid_size_of e)) more.1 ∙ part-kept file more.0 (place_of e) (cid_size_of e) (omega (arith, within.1)) in
+    let block : part_of (file_at new (file_in e)) (place_of e + cid_size_of e) (block_size_of e) ≡ part_of file (place_of e + cid_size_of e) (block_size_of e) =
+    ap (λ (f : List ℕ). part_of f (place_of e + cid_size_of e) (block_size_of e)) more.1 ∙ part-kept file more.0 (place_of e + cid_size_of e) (block_size_of e) within.1 in
+    ap (λ (c : List ℕ). (c, part_of (file_at new (file_in e)) (place_of e + cid_size_of e) (block_size_of e))) cid
+    ∙ ap (λ (b : List ℕ). (part_of file (place_of e) (cid_size_of e), b)) block
 
 -- and each of many has
 pub pairs-kept : (old new : List (List ℕ)) (es : List Entry) → Grows old new → All (IsWithin old) es → map (pair_in new) es ≡ map (pair_in old) es
@@ -68,7 +68,7 @@ pairs-kept old new (e ∷ es) grows within =
 
 -- any entry, where one is asked for
 abbrev pub none : Entry
-none = record { place = 0; size = 0; packed = 0 }
+none = record { place = 0; size = 0; uppers = 0; cid_size = 0; packed = 0 }
 
 -- two entries in each other's place
 pub map-swap : {X Y : Type 0} (f : X → Y) (xs : List X) (i j : ℕ) (d : X) → i < length xs → j < length xs → map f (swap xs i j) ≡ swap (map f xs) i j

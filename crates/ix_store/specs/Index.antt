@@ -5,7 +5,7 @@ use Rattle.std.specs.declared.alloc.AllocError.{AllocError}
 use Rattle.std.specs.BTreeMap.{get}
 use Rattle.std.specs.Cmp.Lexicographic.{slice_cmp}
 use Rattle.std.specs.Ordering.{nat_cmp}
-use Rattle.std.specs.Int.{w64, from_le_bytes}
+use Rattle.std.specs.Int.{w32, w64, from_le_bytes}
 use Rattle.std.specs.Int.Bits.{bit_and}
 use Rattle.ix_store.specs.Store.{Blocks, HasDistinctCids, position_of}
 use Rattle.ix_store.specs.declared.index.Slot.{Slot}
@@ -19,9 +19,9 @@ use Rattle.ix_store.specs.declared.index.Index.{Index}
 abbrev pub key_hash : List ℕ → ℕ
 key_hash c = if nat_lt (length c) 8 then 0 else from_le_bytes w64 (drop (length c - 8) c)
 
--- the fingerprint of a number: its upper half
+-- the fingerprint of a number: its highest byte
 abbrev pub fingerprint : ℕ → ℕ
-fingerprint hash = hash / 2 ^ 32
+fingerprint hash = hash / 2 ^ 56
 
 -- the slot at which the look-up of a number begins: its bits, masked by the last slot at which one may
 abbrev pub first_of : List Slot → ℕ → ℕ
@@ -31,20 +31,24 @@ first_of slots hash = bit_and hash (length slots - 8)
 abbrev pub window_of : List Slot → ℕ → List Slot
 window_of slots hash = if nat_lt (length slots) 8 then [] else take 8 (drop (first_of slots hash) slots)
 
+-- the position in a slot plus 1, or 0 if the slot is free
+abbrev pub end_of : Slot → ℕ
+end_of slot = from_le_bytes w32 slot.end
+
 abbrev pub IsFree : Slot → Type 0
-IsFree slot = slot.end ≡ 0
+IsFree slot = end_of slot ≡ 0
 
 -- the slot isn't free
 abbrev pub IsTaken : Slot → Type 0
-IsTaken slot = 0 < slot.end
+IsTaken slot = 0 < end_of slot
 
 -- a slot has this fingerprint and this position
 abbrev pub Has : Slot → ℕ → ℕ → Type 0
-Has slot tag place = (slot.tag ≡ tag) × (slot.end ≡ place + 1)
+Has slot tag place = (slot.tag ≡ tag) × (end_of slot ≡ place + 1)
 
 -- what a slot returns as its position
 abbrev pub HasPlace : Slot → Option ℕ → Type 0
-HasPlace slot (Some place) = slot.end ≡ place + 1
+HasPlace slot (Some place) = end_of slot ≡ place + 1
 HasPlace slot None = IsFree slot
 
 -- no slot can have this position
@@ -139,7 +143,7 @@ is_cid_at blocks place c = is_cid_of (slice_get blocks place) c
 abbrev pub probe_of : Blocks → List Slot → ℕ → List ℕ → Probe
 probe_of blocks [] tag c = Full
 probe_of blocks (slot ∷ slots) tag c =
-    if slot.end == 0 then Free else (if slot.tag == tag && is_cid_at blocks (slot.end - 1) c then At (slot.end - 1) else probe_of blocks slots tag c)
+    if end_of slot == 0 then Free else (if slot.tag == tag && is_cid_at blocks (end_of slot - 1) c then At (end_of slot - 1) else probe_of blocks slots tag c)
 
 -- what the look-up of a CID finds in the slots of a table
 abbrev pub probe_in : List Slot → Blocks → List ℕ → Probe

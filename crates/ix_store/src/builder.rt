@@ -233,11 +233,11 @@ fn index_in_turn(
     ensures kept { IfOk result (λ r. r.0.pairs ≡ pairs_counted indexed blocks.pairs) }
     ensures indexed { IfOk result (λ r. IsIndexed r.1 r.0.pairs) }
 {
+    make_room(alloc, &blocks, &mut index, indexed)?;
     let mut kept = indexed;
     for place in indexed..blocks.len() {
         let (cid, _) = blocks.entries().at(place);
         let before = blocks.entries().first(kept);
-        index.make_room(alloc, &before)?;
         if index.enter(alloc, &before, cid)? {
             blocks.swap(kept, place);
             kept += 1;
@@ -245,4 +245,18 @@ fn index_in_turn(
     }
     blocks.truncate(kept);
     Ok((blocks, index))
+}
+
+// Makes room for all blocks in the index of the first ones.
+fn make_room(
+    alloc: Global,
+    blocks: &BlockTable,
+    index: &mut Index,
+    indexed: usize,
+) -> Result<(), AllocError>
+    requires { IsIndexed index.old (take indexed blocks.now.pairs) }
+    ensures { IsIndexed index.new (take indexed blocks.now.pairs) }
+{
+    let before = blocks.entries().first(indexed);
+    index.make_room(alloc, &before, blocks.len())
 }

@@ -1,8 +1,8 @@
 //! The index of a store: a hash table from CIDs to positions of entries.
 //!
 //! A CID has a number, its last eight bytes as a little-endian integer. In an honest file these are
-//! bytes of a digest, so the look-ups of different CIDs hardly meet. The lower half of the number
-//! says at which slot its look-up begins, and the upper half is the fingerprint that distinguishes
+//! bytes of a digest, so the look-ups of different CIDs hardly meet. The low bits of the number say
+//! at which slot its look-up begins, and its highest byte is the fingerprint that distinguishes most
 //! CIDs of one slot: the CID itself is compared only if it matches. An attacker can choose CIDs
 //! with one number, or with numbers that come to one slot. So a look-up visits a bounded number of
 //! slots, and a CID that finds none of them free goes to a tree over whole CIDs.
@@ -10,7 +10,7 @@
 ghost use Rattle.std.specs.Prelude.{◌≡◌, ◌↔◌, List, [], ◌-◌, ◌*◌, ◌^◌, ◌<◌, Option, length, Some, None, true, false, not, IsTrue, IfOk, OnErr, ℕ, ◌≤◌};
 ghost use Rattle.std.specs.Option.{unwrap_or};
 ghost use Rattle.ix_store.specs.Store.{has_cid, position_of, HasDistinctCids};
-ghost use Rattle.ix_store.specs.Index.{key_hash, fingerprint, first_of, window_of, Has, HasPlace, place_after, ComesOnlyAfter, SameAfter, PutsAfter, AreLedTo, IsIndexed, IsIndexedWith, MayIndex, StaysTrueAfter, AllSeen, HasAllOf, AreAfter, FindsFree, IsLookup, is_cid_at, probe_in};
+ghost use Rattle.ix_store.specs.Index.{key_hash, fingerprint, first_of, window_of, end_of, Has, HasPlace, place_after, ComesOnlyAfter, SameAfter, PutsAfter, AreLedTo, IsIndexed, IsIndexedWith, MayIndex, StaysTrueAfter, AllSeen, HasAllOf, AreAfter, FindsFree, IsLookup, is_cid_at, probe_in};
 
 use crate::fill::filled;
 use crate::table::Entries;
@@ -20,7 +20,9 @@ use std::alloc::{AllocError, Global};
 use std::collections::BTreeMap;
 use std::thread::Threads;
 
-// How many slots a look-up visits at most.
+// How many slots a look-up visits at most. Where half of the slots are taken, one honest CID in two
+// hundred finds none of so many free. A CID that was chosen to have the fingerprints of all of them is
+// compared with as many.
 pub(crate) const PROBES: usize = 8;
 
 // At how many slots a look-up may begin in the smallest table: a power of two, as in each larger
@@ -30,17 +32,20 @@ const LEAST_STARTS: usize = 64;
 // How many positions slots can have. Those from there on go to the tree.
 pub(crate) const MOST_PLACES: usize = 0xffff_ffff;
 
-// A slot of the table, in eight bytes: free, or the fingerprint of a CID and the position of its
-// entry.
+// A slot of the table: free, or the fingerprint of a CID and the position of its entry. It is made of
+// bytes, so that it takes five and not eight.
 #[derive(Clone, Copy)]
 pub(crate) struct Slot {
-    tag: u32,
-    // The position of the entry plus 1, or 0 if the slot is free.
-    end: u32,
+    tag: u8,
+    // The position of the entry plus 1, or 0 if the slot is free, with the lowest byte first.
+    end: [u8; 4],
 }
 
 impl Slot {
-    pub(crate) const FREE: Slot = Slot { tag: 0, end: 0 };
+    pub(crate) const FREE: Slot = Slot {
+        tag: 0,
+        end: [0; 4],
+    };
 
     // Returns the slot of a position under a number.
     pub(crate) fn taken(hash: u64, place: usize) -> Slot
@@ -49,7 +54,7 @@ impl Slot {
     {
         Slot {
             tag: fingerprint(hash),
-            end: place as u32 + 1,
+            end: (place as u32 + 1).to_le_bytes(),
         }
     }
 
@@ -57,7 +62,7 @@ impl Slot {
     pub(crate) fn place(self) -> Option<usize>
         ensures { HasPlace self result }
     {
-        match self.end {
+        match u32::from_le_bytes(self.end) {
             0 => None,
             end => Some(end as usize - 1),
         }
@@ -99,6 +104,18 @@ impl Index {
             slots: Vec::new(alloc),
             overflow: BTreeMap::new(alloc),
         }
+    }
+
+    // Creates the index of no entries, with room for so many.
+    pub(crate) fn with_room(alloc: Global, count: usize) -> Result<Index, AllocError>
+        ensures { IfOk result (λ index. IsIndexed index []) }
+    {
+        let starts = starts_for(count);
+        let slots = vec![in alloc; Slot::FREE; starts.saturating_add(PROBES - 1)]?;
+        Ok(Index {
+            slots,
+            overflow: BTreeMap::new(alloc),
+        })
     }
 
     // Builds the index of these entries: several threads fill its slots, and then check that the
@@ -177,21 +194,22 @@ impl Index {
         Ok(true)
     }
 
-    // Makes room for one entry more: the table is doubled if half of its slots may be taken. The
-    // entries that find no free slot there go to the tree, unless they are in it.
+    // Makes room for so many entries: if they may take more than half of the slots, a larger table is made
+    // of those that are there. What finds no free slot there goes to the tree, unless it is in it.
     pub(crate) fn make_room(
         &mut self,
         alloc: Global,
         entries: &Entries<'_>,
+        count: usize,
     ) -> Result<(), AllocError>
         requires { IsIndexed self.old entries.now }
         ensures { IsIndexed self.new entries.now }
     {
         let starts = self.slots.len().saturating_sub(PROBES - 1);
-        if entries.len() < starts / 2 {
+        if count <= starts / 2 {
             return Ok(());
         }
-        let starts = starts.saturating_mul(2).max(LEAST_STARTS);
+        let starts = starts_for(count);
         let mut slots = vec![in alloc; Slot::FREE; starts.saturating_add(PROBES - 1)]?;
         for place in 0..entries.len() {
             let (cid, _) = entries.at(place);
@@ -373,8 +391,8 @@ fn is_cid_at(entries: &Entries<'_>, place: usize, cid: &[u8]) -> bool
     }
 }
 
-// Returns at how many slots a look-up may begin in a table for `count` entries: at twice as many,
-// or more.
+// Returns at how many slots a look-up may begin in a table for `count` entries: at twice as many, or
+// more.
 pub(crate) fn starts_for(count: usize) -> usize
     ensures { 64 ≤ result }
 {
@@ -385,11 +403,11 @@ pub(crate) fn starts_for(count: usize) -> usize
         .unwrap_or(LEAST_STARTS)
 }
 
-// Returns the fingerprint of a number: its upper half.
-fn fingerprint(hash: u64) -> u32
+// Returns the fingerprint of a number: its highest byte.
+fn fingerprint(hash: u64) -> u8
     ensures { result ≡ fingerprint hash }
 {
-    (hash >> 32) as u32
+    (hash >> 56) as u8
 }
 
 // Returns the number of a CID.

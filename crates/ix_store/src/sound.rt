@@ -148,12 +148,11 @@ fn index_judged_in_turn(
 ) -> Result<(JudgedTable, Index), AllocError>
     ensures { IfOk result (λ r. AreFirstIndexed blocks.pairs r.0.pairs r.1) }
 {
-    let mut index = Index::new(alloc);
+    let mut index = Index::with_room(alloc, blocks.len())?;
     let mut kept = 0;
     for place in 0..blocks.len() {
         let (cid, _) = blocks.entries().at(place);
         let before = blocks.entries().first(kept);
-        index.make_room(alloc, &before)?;
         if index.enter(alloc, &before, cid)? {
             blocks.swap(kept, place);
             kept += 1;

@@ -127,8 +127,8 @@ impl Store {
         if self.find(&cid).is_some() {
             return Ok(false);
         }
-        self.index.make_room(self.alloc, &self.blocks.entries())?;
         let count = self.blocks.len();
+        self.index.make_room(self.alloc, &self.blocks.entries(), count.saturating_add(1))?;
         let bytes = cid.as_bytes();
         self.blocks.push_copy(bytes, block)?;
         let before = self.blocks.entries().first(count);

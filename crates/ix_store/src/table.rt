@@ -3,7 +3,7 @@
 ghost use Rattle.std.specs.Prelude.{◌≡◌, ◌<◌, ◌*◌, ◌+◌, ◌^◌, [], ◌∷◌, ◌++◌, length, take, map, slice_get, option_map, swap, is_none, OnOk, OnErr, IfOk};
 ghost use Rattle.std.specs.Arc.{arc_value};
 ghost use Rattle.ix_cbor.specs.Reading.{data_at};
-ghost use Rattle.ix_store.specs.Table.{file_bytes, files_of, file_in, cid_size_of, pair_in, block_in, with_file, IsEntryOf, IsRange, IsAppended, section_in, part_of, file_at};
+ghost use Rattle.ix_store.specs.Table.{file_bytes, files_of, file_in, place_of, cid_size_of, block_size_of, pair_in, block_in, with_file, IsEntryOf, IsRange, IsAppended, section_in, part_of, file_at};
 ghost use Rattle.ix_store.specs.Sound.{picked, is_picked, passing_first};
 
 use crate::cursor::Cursor;
@@ -17,9 +17,18 @@ use std::sync::Arc;
 // How many bytes a buffer of copied blocks has at most. A larger block has a buffer of its own.
 const BUFFER: usize = 1024 * 1024;
 
-// An entry has the number of its file and the size of its CID in one word: the size is below this
-// number, which is the file's factor.
-const CID_SIZES: u64 = 1 << 40;
+// What 32 bits can count.
+const HALF: usize = 1 << 32;
+
+// There are fewer files than this, and the places in one, the sizes of CIDs and those of blocks are below
+// these numbers.
+const FILES: usize = 1 << 24;
+
+const PLACES: usize = 1 << 48;
+
+const CID_SIZES: usize = 1 << 40;
+
+const BLOCK_SIZES: usize = 1 << 48;
 
 /// A file: shared bytes, or a buffer of blocks that were copied.
 #[derive(Drop)]
@@ -52,30 +61,39 @@ impl File {
     }
 }
 
-/// Where a CID is, and the block right after it, in 24 bytes.
+/// Where a CID is, and the block right after it, in 20 bytes: what is above 32 bits of a place and a size
+/// is packed with that of another number.
 #[derive(Drop, Clone, Copy)]
 pub(crate) struct Entry {
-    // Where the CID begins in its file.
-    place: usize,
-    // How many bytes the block has.
-    size: usize,
-    // The number of the file, times `CID_SIZES`, and how many bytes the CID has.
-    packed: u64,
+    // Where the CID begins in its file, the lower 32 bits.
+    place: u32,
+    // How many bytes the block has, the lower 32 bits.
+    size: u32,
+    // The upper 16 bits of the place, and below them those of the size.
+    uppers: u32,
+    // How many bytes the CID has, the lower 32 bits.
+    cid_size: u32,
+    // The 24 bits of the file's number, and below them the upper 8 bits of the CID's size.
+    packed: u32,
 }
 
 impl Entry {
-    // Makes an entry. Fails, as if memory ran out, if there are 2^24 files or the CID has 2^40 bytes.
+    // Makes an entry. Fails, as if memory ran out, if there are 2^24 files, the CID has 2^40 bytes, or the
+    // block has 2^48 or its CID is at such a place.
     fn new(file: usize, place: usize, cid_size: usize, size: usize) -> Result<Entry, AllocError>
         ensures { IfOk result (IsEntryOf file place cid_size size) }
     {
-        if file >= 1 << 24 || cid_size as u64 >= CID_SIZES {
+        if file >= FILES || place >= PLACES || cid_size >= CID_SIZES || size >= BLOCK_SIZES {
             return Err(AllocError);
         }
-        let packed = file as u64 * CID_SIZES + cid_size as u64;
+        let uppers = place / HALF * 65_536 + size / HALF;
+        let packed = file * 256 + cid_size / HALF;
         Ok(Entry {
-            place,
-            size,
-            packed,
+            place: (place % HALF) as u32,
+            size: (size % HALF) as u32,
+            uppers: uppers as u32,
+            cid_size: (cid_size % HALF) as u32,
+            packed: packed as u32,
         })
     }
 
@@ -83,14 +101,28 @@ impl Entry {
     fn file(&self) -> usize
         ensures { result ≡ file_in self.now }
     {
-        (self.packed / CID_SIZES) as usize
+        (self.packed / 256) as usize
+    }
+
+    // Returns where the CID begins in the file.
+    fn place(&self) -> usize
+        ensures { result ≡ place_of self.now }
+    {
+        self.place as usize + (self.uppers / 65_536) as usize * HALF
     }
 
     // Returns how many bytes the CID has.
     fn cid_size(&self) -> usize
         ensures { result ≡ cid_size_of self.now }
     {
-        (self.packed % CID_SIZES) as usize
+        self.cid_size as usize + (self.packed % 256) as usize * HALF
+    }
+
+    // Returns how many bytes the block has.
+    fn size(&self) -> usize
+        ensures { result ≡ block_size_of self.now }
+    {
+        self.size as usize + (self.uppers % 65_536) as usize * HALF
     }
 }
 
@@ -177,9 +209,9 @@ fn split<'a>(files: &'a [File], buffer: &'a [u8], entry: &Entry) -> (&'a [u8], &
     ensures { (result.0.now, result.1.now) ≡ pair_in (files_of files.now buffer.now) entry.now }
 {
     let bytes = bytes_of(files, buffer, entry.file());
-    let (_, rest) = bytes.split_at(entry.place.min(bytes.len()));
+    let (_, rest) = bytes.split_at(entry.place().min(bytes.len()));
     let (cid, rest) = rest.split_at(entry.cid_size().min(rest.len()));
-    let (block, _) = rest.split_at(entry.size.min(rest.len()));
+    let (block, _) = rest.split_at(entry.size().min(rest.len()));
     (cid, block)
 }
 
@@ -190,7 +222,7 @@ fn cursor_of<'a>(files: &'a [File], buffer: &'a [u8], entry: &Entry) -> Cursor<'
     let (cid, block) = split(files, buffer, entry);
     match files.get(entry.file()) {
         Some(File::Shared(bytes)) => {
-            let end = bytes.len().min(entry.place) + cid.len() + block.len();
+            let end = bytes.len().min(entry.place()) + cid.len() + block.len();
             Cursor::within(block, bytes, end)
         }
         _ => Cursor::of(block),

@@ -1,5 +1,5 @@
 use Rattle.std.proofs.Common.{◌≡◌, ◌∙◌, ◌<◌, ◌≤◌, ◌+◌, List, length, get_or, sym, ap, subst, inl, inr}
-use Rattle.ix_store.specs.Index.{window_of, key_hash, fingerprint, IsFree}
+use Rattle.ix_store.specs.Index.{window_of, end_of, key_hash, fingerprint, IsFree}
 use Rattle.ix_store.specs.declared.index.Slot.{Slot}
 use Rattle.ix_store.proofs.Indexes.{free}
 use Rattle.ix_store.proofs.Found.{probe-free, probe-here, probe-on, probe-end}
@@ -22,7 +22,7 @@ returns-then-is_cid_at c =
     let e : c.window.result.1.now ≡ l = c.window.ensures.slots ∙ ap (window_of c.args.slots.now) c.key_hash-hash.ensures in
     let within : n < length l = subst (λ (r : List Slot). n < length r) e c.loop-slot-test.true in
     let tag : (get_or l n free).tag ≡ fingerprint (key_hash c.args.cid.now) = subst (λ (r : List Slot). (get_or r n free).tag ≡ c.fingerprint-tag.result) e c.if-slot-tag.true ∙ c.fingerprint-tag.ensures ∙ ap fingerprint c.key_hash-hash.ensures in
-    let end : (get_or l n free).end ≡ p + 1 = subst (λ (r : List Slot). (get_or r n free).end ≡ p + 1) e c.in-Some.ensures in
+    let end : end_of (get_or l n free) ≡ p + 1 = subst (λ (r : List Slot). end_of (get_or r n free) ≡ p + 1) e c.in-Some.ensures in
     sym (probe-here c.args.entries.now l n (fingerprint (key_hash c.args.cid.now)) p c.args.cid.now within (tag, end) (sym c.is_cid_at.ensures ∙ c.if-is_cid_at.true)) ∙ c.loop-slot.invariant
 
 pub loop-slot-preserved : goal.loop-slot-preserved
@@ -33,7 +33,7 @@ loop-slot-preserved c =
     let e : c.window.result.1.now ≡ l = c.window.ensures.slots ∙ ap (window_of c.args.slots.now) c.key_hash-hash.ensures in
     let within : n < length l = subst (λ (r : List Slot). n < length r) e c.loop-slot-test.true in
     let tag = c.fingerprint-tag.ensures ∙ ap fingerprint c.key_hash-hash.ensures in
-    let end : (get_or l n free).end ≡ p + 1 = subst (λ (r : List Slot). (get_or r n free).end ≡ p + 1) e c.in-Some.ensures in
+    let end : end_of (get_or l n free) ≡ p + 1 = subst (λ (r : List Slot). end_of (get_or r n free) ≡ p + 1) e c.in-Some.ensures in
     probe-on c.args.entries.now l n (fingerprint (key_hash c.args.cid.now)) p c.args.cid.now within end
     (elim c.else-slot-tag.branch [
       | else-slot-tag-via-then-slot-tag+else-is_cid_at w ↦ inr (sym w.is_cid_at.ensures ∙ w.if-is_cid_at.false)

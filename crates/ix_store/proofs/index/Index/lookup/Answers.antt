@@ -1,6 +1,6 @@
 use Rattle.std.proofs.Common.{◌≡◌, ◌∙◌, ◌+◌, ◌-◌, ◌^◌, ◌<◌, ◌≤◌, List, length, get_or, sym, ap, subst, arith, inl, inr}
 use Rattle.std.proofs.lemmas.Bool.{false≢true}
-use Rattle.ix_store.specs.Index.{key_hash, fingerprint, first_of, window_of, IsFree, IsLarge}
+use Rattle.ix_store.specs.Index.{key_hash, fingerprint, first_of, window_of, end_of, IsFree, IsLarge}
 use Rattle.ix_store.specs.Store.{position_of}
 use Rattle.ix_store.specs.declared.index.Slot.{Slot}
 use Rattle.ix_store.proofs.Blocks.{place_within}
@@ -37,7 +37,7 @@ loop-step-preserved c =
     let n = c.loop-step.step in
     let e : c.window-first.result.1.now ≡ l = c.window-first.ensures.slots ∙ ap (λ (r : List Slot). window_of r c.key_hash-hash.result) c.as_slice.ensures.value ∙ ap (window_of c.args.self.now.slots.items) c.key_hash-hash.ensures in
     let tag = c.fingerprint-tag.ensures ∙ ap fingerprint c.key_hash-hash.ensures in
-    passed-more l n _ _ _ c.in-Some.place c.loop-step.invariant (subst (λ (r : List Slot). n < length r) e c.loop-step-test.true) (subst (λ (r : List Slot). (get_or r n free).end ≡ c.in-Some.place + 1) e c.in-Some.ensures)
+    passed-more l n _ _ _ c.in-Some.place c.loop-step.invariant (subst (λ (r : List Slot). n < length r) e c.loop-step-test.true) (subst (λ (r : List Slot). end_of (get_or r n free) ≡ c.in-Some.place + 1) e c.in-Some.ensures)
     (elim c.else-slot-tag.branch [
       | else-slot-tag-via-then-slot-tag+else-holds w ↦ λ same is. false≢true (sym w.if-holds.false ∙ w.holds.ensures.1 is)
       | else-slot-tag-via-else-slot-tag w ↦ λ same is. w.if-slot-tag.false (ap (λ (r : List Slot). (get_or r n free).tag) e ∙ same ∙ sym tag)
