@@ -104,6 +104,11 @@ impl<'a> Expansions<'a> {
         })
     }
 
+    /// Returns whether it has no expansion: then a walk is faster without it.
+    pub fn is_empty(&self) -> bool {
+        self.pairs.is_empty()
+    }
+
     /// The store.
     pub(crate) fn store(&self) -> &'a Store
         ensures { result.now ≡ self.now.store }

@@ -27,7 +27,8 @@ type Part<'a> = Result<Expansions<'a>, AllocError>;
 /// Makes expansions of what a job's walk will visit, level by level from the roots, each level by at
 /// most so many threads. It ends after 64 levels in a row with fewer than 128 pairs, at as many pairs
 /// as the job's limit, and where the table takes about as many bytes as it may: then it returns what
-/// was made. Returns `None` if memory runs out, with all of that freed, and with fewer than two threads.
+/// was made. If no level was wide, as in a chain, the table is empty: a walk is faster without one.
+/// Returns `None` if memory runs out, with all that was made freed, and with fewer than two threads.
 pub fn prefetch<'a, R: Threads + Sync>(
     rt: &R,
     alloc: Global,
@@ -47,38 +48,42 @@ pub fn prefetch<'a, R: Threads + Sync>(
         return None;
     };
     match add_levels(rt, alloc, &mut table, threads, most_bytes) {
-        Ok(()) | Err(TableStop::Full) => Some(table),
+        Ok(true) => Expansions::new(alloc, store, job).ok(),
+        Ok(false) | Err(TableStop::Full) => Some(table),
         Err(TableStop::Memory) => None,
     }
 }
 
-// Adds the expansions of all levels, or of the first if the table is full before.
+// Adds the expansions of all levels, or of the first if the table is full before. Returns whether narrow
+// levels ended it and no level was wide.
 fn add_levels<R: Threads + Sync>(
     rt: &R,
     alloc: Global,
     table: &mut Expansions<'_>,
     threads: usize,
     most_bytes: usize,
-) -> Result<(), TableStop>
+) -> Result<bool, TableStop>
     requires { 0 < threads }
     ensures { IsTableOf table.old table.new }
 {
     let mut level = table.root_level(alloc)?.tasks;
     let mut narrow = 0u32;
+    let mut wide = false;
     // Each level has a pair, and there are at most as many pairs as the limit.
     for _level in 0..table.job().limit() {
         if level.is_empty() || narrow == MOST_NARROW {
             break;
         }
-        narrow = if level.len() < NARROW {
-            narrow.saturating_add(1)
+        if level.len() < NARROW {
+            narrow = narrow.saturating_add(1);
         } else {
-            0
-        };
+            narrow = 0;
+            wide = true;
+        }
         let parts = make_parts(rt, alloc, table, level.as_slice(), threads, most_bytes)?;
         level = merge_parts(alloc, table, level.len(), parts.as_slice())?;
     }
-    Ok(())
+    Ok(narrow == MOST_NARROW && !wide)
 }
 
 // Makes the expansions of a level, in parts, each by a thread.

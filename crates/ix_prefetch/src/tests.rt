@@ -94,12 +94,12 @@ fn add_list(alloc: Global, store: &mut Store, cids: &[Vec<u8>]) -> Result<Vec<u8
     Ok(bytes)
 }
 
-// A list of links to 130 lists. Each has a link to one more list, which is the same for all and has a
-// link to a block that isn't there, and a link to another such block.
-fn star(alloc: Global) -> Result<(Store, Vec<u8>), Fail> {
-    let mut store = Store::new(alloc);
+// Adds a list of links to 130 lists. Each has a link to one more list, which is the same for all and has a
+// link to the block below, and a link to a block that isn't there.
+fn star(alloc: Global, below: (Store, Vec<u8>)) -> Result<(Store, Vec<u8>), Fail> {
+    let (mut store, below) = below;
     let mut last = Vec::new(alloc);
-    last.push(absent(alloc, 0)?)?;
+    last.push(below)?;
     let shared = add_list(alloc, &mut store, last.as_slice())?;
     let mut middle = Vec::new(alloc);
     for number in 1..=130u8 {
@@ -109,7 +109,6 @@ fn star(alloc: Global) -> Result<(Store, Vec<u8>), Fail> {
         middle.push(add_list(alloc, &mut store, links.as_slice())?)?;
     }
     let root = add_list(alloc, &mut store, middle.as_slice())?;
-    store.enable_memo()?;
     Ok((store, root))
 }
 
@@ -307,7 +306,9 @@ fn a_tree_with_several_residuals(rt: HostRuntime) -> Result<(), Fail> {
 #[test]
 fn where_it_ends(rt: HostRuntime) -> Result<(), Fail> {
     let alloc = rt.alloc();
-    let graph = star(alloc)?;
+    let (mut store, root) = star(alloc, (Store::new(alloc), absent(alloc, 0)?))?;
+    store.enable_memo()?;
+    let graph = (store, root);
     // All of it: the lists of the middle level in three shares.
     let all = counts(&rt, alloc, &graph, 1000, ANY_BYTES)?;
     assert_eq!(rt; all.as_str(), "132 521 true / 132 392 true");
@@ -320,8 +321,11 @@ fn where_it_ends(rt: HostRuntime) -> Result<(), Fail> {
     assert_eq!(rt; none.as_str(), "0 521 true / 0 392 true");
     let limited = counts(&rt, alloc, &graph, 100, ANY_BYTES)?;
     assert_eq!(rt; limited.as_str(), "100 101 true / 100 101 true");
-    // Sixty-four levels, each of one pair.
+    // Sixty-four levels after the wide one, each of one pair.
+    let below = counts(&rt, alloc, &star(alloc, chain(alloc)?)?, 1000, ANY_BYTES)?;
+    assert_eq!(rt; below.as_str(), "195 1001 true / 195 462 true");
+    // Of a chain nothing is kept.
     let narrow = counts(&rt, alloc, &chain(alloc)?, 1000, ANY_BYTES)?;
-    assert_eq!(rt; narrow.as_str(), "64 71 true / 64 71 true");
+    assert_eq!(rt; narrow.as_str(), "0 71 true / 0 71 true");
     Ok(())
 }

@@ -23,7 +23,7 @@ pub struct Prefetch {
 pub struct JobWalks<'a> {
     store: &'a Store,
     jobs: &'a Vec<Job>,
-    // The table of each job; empty if the jobs have none.
+    // The table of each job, which may have no expansion; empty if the jobs have none.
     tables: Vec<Expansions<'a>>,
 }
 
@@ -110,8 +110,10 @@ impl<'a> JobWalks<'a> {
         ensures { IfOk result (λ w. w ≡ whole_walk self.now.store number job.now) }
     {
         let kind = match self.table_of(number) {
-            Some(table) => WalkKind::Table(TableWalk::new(alloc, table, number)?),
-            None => WalkKind::Blocks(Walk::new(alloc, self.store, job, number)?),
+            Some(table) if !table.is_empty() => {
+                WalkKind::Table(TableWalk::new(alloc, table, number)?)
+            }
+            _ => WalkKind::Blocks(Walk::new(alloc, self.store, job, number)?),
         };
         Ok(JobWalk { kind })
     }
