@@ -57,7 +57,7 @@ hash sha2-256 2
 smallest 3
 median 3
 greatest $((${#one} / 2))
-memory $(($(wc -c <v2.car) + 80 * 2 + 16 * 1024 * 1024))" ''
+memory $(($(wc -c <v2.car) + 64 * 2 + 16 * 1024 * 1024))" ''
 run inspect --list v2.car
 second=$((57 + 18 + 1 + (${#one_cid} + ${#one}) / 2))
 expect 0 "$((57 + 18)) $((${#one} / 2)) $one_text

@@ -2,7 +2,7 @@
 
 # memory_for BYTES SECTIONS: the last line of a summary.
 memory_for() {
-  echo "memory $(($1 + 80 * $2 + 16 * 1024 * 1024))"
+  echo "memory $(($1 + 64 * $2 + 16 * 1024 * 1024))"
 }
 
 # Three sections: `abc`, the list of one link, and `abc` once more. The header has 59 bytes, and the sections are at

@@ -21,7 +21,7 @@ use std::thread::Threads;
 
 // The memory that `get` and `jobs` take at most for the blocks of a file, if their CIDs aren't crafted to
 // share slots of the index: beside the file for each section, and for all else.
-const SECTION_MEMORY: usize = 80;
+const SECTION_MEMORY: usize = 64;
 
 const PROGRAM_MEMORY: usize = 16 * 1024 * 1024;
 
