@@ -1,5 +1,6 @@
 pub mod Stores
 pub mod Indexes
+pub mod Room
 pub mod Found
 pub mod Seen
 pub mod Gathered

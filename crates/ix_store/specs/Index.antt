@@ -24,11 +24,11 @@ abbrev pub fingerprint : ℕ → ℕ
 fingerprint hash = hash / 2 ^ 56
 
 -- the slot at which the look-up of a number begins: its bits, masked by the last slot at which one may
-abbrev pub first_of : List Slot → ℕ → ℕ
+abbrev pub first_of : {X : Type 0} → List X → ℕ → ℕ
 first_of slots hash = bit_and hash (length slots - 8)
 
 -- the slots that the look-up of a number visits
-abbrev pub window_of : List Slot → ℕ → List Slot
+abbrev pub window_of : {X : Type 0} → List X → ℕ → List X
 window_of slots hash = if nat_lt (length slots) 8 then [] else take 8 (drop (first_of slots hash) slots)
 
 -- the position in a slot plus 1, or 0 if the slot is free
@@ -95,11 +95,15 @@ SameAfter old new = (c : List ℕ) → place_after new c ≡ place_after old c
 abbrev pub PutsAfter : Index → Index → List ℕ → ℕ → Type 0
 PutsAfter old new cid place = (c : List ℕ) → place_after new c ≡ (if bytes_eq cid c then Some place else place_after old c)
 
+-- what the tree has for a CID is its position
+abbrev pub HasTruePlaces : Index → Blocks → Type 0
+HasTruePlaces index blocks = (c : List ℕ) (place : ℕ) → place_after index c ≡ Some place → position_of blocks c ≡ Some place
+
 -- an index of pairs with distinct CIDs: the look-up of each comes to its position, and the tree has no wrong one
 pub record IsIndexed (index : Index) (blocks : Blocks) : Type 0 where
   pub distinct : HasDistinctCids blocks
   pub leads : AreLedTo index.slots.items index blocks
-  pub true_after : (c : List ℕ) (place : ℕ) → place_after index c ≡ Some place → position_of blocks c ≡ Some place
+  pub true_after : HasTruePlaces index blocks
 
 -- the same of these pairs with one more, under this CID
 abbrev pub IsIndexedWith : Index → Blocks → List ℕ → Type 0

@@ -6,6 +6,7 @@ pub use Rattle.ix_cbor.specs.Reading
 pub mod Store
 pub mod Table
 pub mod Index
+pub mod Room
 pub mod Memo
 pub mod PlaceSet
 pub mod Cursor

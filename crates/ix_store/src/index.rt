@@ -7,10 +7,11 @@
 //! with one number, or with numbers that come to one slot. So a look-up visits a bounded number of
 //! slots, and a CID that finds none of them free goes to a tree over whole CIDs.
 
-ghost use Rattle.std.specs.Prelude.{◌≡◌, ◌↔◌, List, [], ◌-◌, ◌*◌, ◌^◌, ◌<◌, Option, length, Some, None, true, false, not, IsTrue, IfOk, OnErr, ℕ, ◌≤◌};
+ghost use Rattle.std.specs.Prelude.{◌≡◌, ◌↔◌, List, [], ◌-◌, ◌*◌, ◌^◌, ◌<◌, Option, length, replicate, Some, None, true, false, not, IsTrue, IfOk, OnOk, OnErr, ℕ, ◌≤◌};
 ghost use Rattle.std.specs.Option.{unwrap_or};
 ghost use Rattle.ix_store.specs.Store.{has_cid, position_of, HasDistinctCids};
-ghost use Rattle.ix_store.specs.Index.{key_hash, fingerprint, first_of, window_of, end_of, Has, HasPlace, place_after, ComesOnlyAfter, SameAfter, PutsAfter, AreLedTo, IsIndexed, IsIndexedWith, MayIndex, StaysTrueAfter, AllSeen, HasAllOf, AreAfter, FindsFree, IsLookup, is_cid_at, probe_in};
+ghost use Rattle.ix_store.specs.Index.{key_hash, fingerprint, first_of, window_of, end_of, Has, HasPlace, place_after, ComesOnlyAfter, SameAfter, PutsAfter, AreLedTo, IsIndexed, IsIndexedWith, MayIndex, StaysTrueAfter, AllSeen, HasAllOf, AreAfter, FindsFree, HasTruePlaces, IsLookup, is_cid_at, probe_in};
+ghost use Rattle.ix_store.specs.Room.{taken_in, slot_for, HasCrowded};
 
 use crate::fill::filled;
 use crate::table::Entries;
@@ -194,8 +195,10 @@ impl Index {
         Ok(true)
     }
 
-    // Makes room for so many entries: if they may take more than half of the slots, a larger table is made
-    // of those that are there. What finds no free slot there goes to the tree, unless it is in it.
+    // Makes room for so many entries: if they may take more than half of the slots, the table grows.
+    // It grows in place, since the larger one beside it would take half as much memory again. So it is
+    // found out first which slots the entries will take, and what will find none goes to the tree,
+    // unless it is in it: once the slots are freed, nothing can fail.
     pub(crate) fn make_room(
         &mut self,
         alloc: Global,
@@ -209,21 +212,55 @@ impl Index {
         if count <= starts / 2 {
             return Ok(());
         }
-        let starts = starts_for(count);
-        let mut slots = vec![in alloc; Slot::FREE; starts.saturating_add(PROBES - 1)]?;
+        let size = starts_for(count).saturating_add(PROBES - 1);
+        let mut taken = vec![in alloc; false; size]?;
         for place in 0..entries.len() {
             let (cid, _) = entries.at(place);
             let hash = key_hash(cid);
-            match free_slot(slots.as_slice(), hash, place) {
-                Some(slot) => slots[slot] = Slot::taken(hash, place),
+            match slot_for(taken.as_slice(), hash, place) {
+                Some(slot) => taken[slot] = true,
                 None if self.has_place(hash, place) => {
                     self.insert_overflow(alloc, cid, place)?;
                 }
                 None => {}
             }
         }
-        self.slots = slots;
+        drop(taken);
+        self.free_slots(size)?;
+        self.fill_slots(entries);
         Ok(())
+    }
+
+    // Makes the table one of so many free slots. Fails, with the table as it was, if memory runs out.
+    fn free_slots(&mut self, size: usize) -> Result<(), AllocError>
+        ensures overflow { self.new.overflow ≡ self.old.overflow }
+        ensures len { OnOk result (length self.new.slots.items ≡ size) }
+        ensures free { OnOk result (taken_in self.new.slots.items ≡ replicate size false) }
+        ensures err { OnErr result (self.new.slots.items ≡ self.old.slots.items) }
+    {
+        let more = size.saturating_sub(self.slots.len());
+        self.slots.reserve(more)?;
+        self.slots.clear();
+        // There is room for them, so this can't fail.
+        self.slots.resize(size, Slot::FREE)?;
+        Ok(())
+    }
+
+    // Fills a table of free slots with the positions of the entries. What finds none is in the tree.
+    fn fill_slots(&mut self, entries: &Entries<'_>)
+        requires distinct { HasDistinctCids entries.now }
+        requires overflow { HasTruePlaces self.old entries.now }
+        requires free { taken_in self.old.slots.items ≡ replicate (length self.old.slots.items) false }
+        requires crowded { HasCrowded self.old entries.now (length self.old.slots.items) }
+        ensures { IsIndexed self.new entries.now }
+    {
+        for place in 0..entries.len() {
+            let (cid, _) = entries.at(place);
+            let hash = key_hash(cid);
+            if let Some(slot) = free_slot(self.slots.as_slice(), hash, place) {
+                self.slots[slot] = Slot::taken(hash, place);
+            }
+        }
     }
 
     // Whether the look-up of a number visits a slot with this position. If it doesn't, only the
@@ -335,7 +372,7 @@ pub(crate) fn key_of(alloc: Global, cid: &[u8]) -> Result<Cid, AllocError>
 }
 
 // Returns the slot at which the look-up of a number begins, and the slots that it visits.
-fn window(slots: &[Slot], hash: u64) -> (usize, &[Slot])
+fn window<T>(slots: &[T], hash: u64) -> (usize, &[T])
     ensures first { result.0 ≡ first_of slots.now hash }
     ensures slots { result.1.now ≡ window_of slots.now hash }
 {
@@ -357,6 +394,22 @@ fn free_slot(slots: &[Slot], hash: u64, place: usize) -> Option<usize>
     let (first, window) = window(slots, hash);
     for (step, slot) in window.iter().enumerate() {
         if slot.place().is_none() {
+            return Some(first + step);
+        }
+    }
+    None
+}
+
+// Does the same of which it is said only which slots are taken.
+fn slot_for(taken: &[bool], hash: u64, place: usize) -> Option<usize>
+    ensures { result ≡ slot_for taken.now hash place }
+{
+    if place >= MOST_PLACES {
+        return None;
+    }
+    let (first, window) = window(taken, hash);
+    for (step, is_taken) in window.iter().enumerate() {
+        if !*is_taken {
             return Some(first + step);
         }
     }

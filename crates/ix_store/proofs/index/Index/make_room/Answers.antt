@@ -1,85 +1,77 @@
-use Rattle.std.proofs.Common.{◌≡◌, ◌∙◌, ◌+◌, ◌<◌, refl, sym, ap, subst, arith, length, take, get_or, slice_get, List, [], ◌∷◌, ◌++◌, ℕ, Some, None}
-use Rattle.std.proofs.lemmas.List.{length-take, take_all}
+use Rattle.std.proofs.Common.{◌≡◌, ◌∙◌, ◌+◌, ◌<◌, refl, sym, ap, subst, arith, slice_get, List, ℕ, Bool, Some, None}
+use Rattle.std.specs.BTreeMap.{BTreeMap, get}
+use Rattle.std.specs.Cmp.Lexicographic.{slice_cmp}
+use Rattle.std.specs.Ordering.{nat_cmp}
 use Rattle.std.proofs.lemmas.Slice.Eq.{bytes_eq-Decides}
-use Rattle.std.proofs.Math.ListN.{set}
-use Rattle.ix_store.specs.Index.{key_hash, fingerprint, place_after, Has, Comes, IsFreeSlot, GoesAfter, AreLedTo, IsIndexed}
-use Rattle.ix_store.specs.Store.{Blocks, position_of}
+use Rattle.ix_store.specs.Index.{key_hash, place_after, Comes, IsIndexed}
+use Rattle.ix_store.specs.Room.{slot_for, with_taken, taken_by, HasCrowdedOf}
+use Rattle.ix_store.specs.Store.{position_of}
 use Rattle.ix_store.specs.declared.index.Index.{Index}
-use Rattle.ix_store.specs.declared.index.Slot.{Slot}
-use Rattle.ix_store.proofs.Stores.{read-at, entries-more, entries-before, position-none, position-there}
-use Rattle.ix_store.proofs.Indexes.{free-at, indexed-same, indexed-put, led-slot, led-behind, led-put, behind-put}
+use Rattle.ix_store.proofs.Stores.{position-there}
+use Rattle.ix_store.proofs.Indexes.{indexed-same, indexed-put, put-keeps, behind-put}
+use Rattle.ix_store.proofs.Room.{taken-more, crowded-slot, crowded-behind, crowded-later}
 use Rattle.ix_store.proofs.index.Index.make_room.Goals.{in-Some, in-None+in_ok-insert_overflow-in-None, in-None+else-has_place}
 use Rattle.ix_store.proofs.index.Index.make_room.Goals as goal
-
-pub index_mut-requires : goal.index_mut-requires
-index_mut-requires c =
-    let items = c.loop-place.slots.items in
-    let first = free-at items c.key_hash-hash.result c.in-Some.slot (subst (λ (r : List Slot). IsFreeSlot r c.key_hash-hash.result c.in-Some.slot) c.as_slice.ensures.value c.in-Some.ensures.1) in
-    omega (arith, first.within, c.loop-place.slots.ok.0)
 
 pub returns-in_err-insert_overflow-in-None : goal.returns-in_err-insert_overflow-in-None
 returns-in_err-insert_overflow-in-None c =
     indexed-same c.loop-place.self c.insert_overflow.new.self _ c.loop-place.invariant.0 (ap (λ s. s.items) c.in_err-insert_overflow-in-None.ensures.slots) c.in_err-insert_overflow-in-None.ensures.err
 
+pub returns-in_err-free_slots : goal.returns-in_err-free_slots
+returns-in_err-free_slots c =
+    indexed-same c.loop-place.self c.free_slots.new.self _ c.loop-place.invariant.0 c.in_err-free_slots.ensures.err
+    (λ k. ap (λ (m : BTreeMap (List ℕ) ℕ). get (slice_cmp nat_cmp) m k) c.in_err-free_slots.ensures.overflow)
+
+pub fill_slots-requires-clause-crowded : goal.fill_slots-requires-clause-crowded
+fill_slots-requires-clause-crowded c k e within there none =
+    let all : k < c.loop-place.place = omega (arith, within, c.loop-place-test.false, c.len-place-end.ensures) in
+    ap (λ (m : BTreeMap (List ℕ) ℕ). get (slice_cmp nat_cmp) m e.0) c.in_ok-free_slots.ensures.overflow
+    ∙ c.loop-place.invariant.2 k e all there (subst (λ (n : ℕ). slot_for (taken_by n c.args.entries.now k) (key_hash e.0) k ≡ None) c.in_ok-free_slots.ensures.len none)
+
 pub loop-place-preserved : goal.loop-place-preserved
 loop-place-preserved c =
     let entries = c.args.entries.now in
+    let size = c.saturating_add-size.result in
     let place = c.loop-place.place in
     let e : List ℕ × List ℕ = (c.at.result.0.now, c.at.result.1.now) in
     let here_is : slice_get entries place ≡ Some e = c.at.ensures in
-    let read : e ≡ get_or entries place e = read-at entries place e here_is in
     let t = c.key_hash-hash.result in
+    let hash : t ≡ key_hash e.0 = c.key_hash-hash.ensures in
     let index = c.loop-place.self in
-    let slots = c.loop-place.slots.items in
-    let before = take place entries in
-    let indexed : IsIndexed index entries = c.loop-place.invariant.0 in
-    let led : AreLedTo slots index before = c.loop-place.invariant.1 in
-    let within : place < length entries = omega (arith, c.loop-place-test.true, c.len-place-end.ensures) in
-    let new : position_of before e.0 ≡ None = position-none 0 before e.0 (entries-before entries place e within read indexed.distinct) in
-    let few : place ≡ length before = omega (arith, within, length-take place entries) in
-    let more : take (place + 1) entries ≡ before ++ e ∷ [] = entries-more entries place e within read in
-    let there : position_of entries e.0 ≡ Some place = position-there entries place e e.0 indexed.distinct here_is ((bytes_eq-Decides e.0 e.0).1 refl) in
-    elim c.match-free_slot.branch [
+    let taken = c.loop-place.taken.items in
+    let h = c.loop-place.invariant in
+    let there : position_of entries e.0 ≡ Some place = position-there entries place e e.0 h.0.distinct here_is ((bytes_eq-Decides e.0 e.0).1 refl) in
+    elim c.match-slot_for.branch [
       | in-Some w ↦
-          let free : IsFreeSlot slots (key_hash e.0) w.in-Some.slot = subst (λ (n : ℕ). IsFreeSlot slots n w.in-Some.slot) c.key_hash-hash.ensures (subst (λ (r : List Slot). IsFreeSlot r t w.in-Some.slot) c.as_slice.ensures.value w.in-Some.ensures.1) in
-          let x = w.taken.result in
-          let has : Has x (fingerprint (key_hash e.0)) (length before) = subst (λ (n : ℕ). Has x (fingerprint n) (length before)) c.key_hash-hash.ensures (subst (λ (n : ℕ). Has x (fingerprint t) n) few w.taken.ensures) in
-          let here : AreLedTo (set slots w.in-Some.slot x) index (before ++ e ∷ []) = led-slot slots index before e.0 e.1 w.in-Some.slot x led new (free-at slots (key_hash e.0) w.in-Some.slot free) has in (
-            subst (λ (i : Index). IsIndexed i entries) (sym w.self-is) indexed,
-            subst (λ (i : Index). AreLedTo c.match-free_slot.slots.items i (take (place + 1) entries)) (sym w.self-is)
-                (subst (λ (l : List Slot). AreLedTo l index (take (place + 1) entries)) (sym (ap (λ v. v.items) w.slots-is))
-                (subst (λ (es : Blocks). AreLedTo (set slots w.in-Some.slot x) index es) (sym more) here)),
+          let slot = w.in-Some.slot in
+          let found : slot_for taken (key_hash e.0) place ≡ Some slot =
+          ap (λ (n : ℕ). slot_for taken n place) (sym hash) ∙ ap (λ (r : List Bool). slot_for r t place) (sym c.as_slice.ensures.value) ∙ sym w.in-Some.ensures in
+          let more : with_taken taken (Some slot) ≡ taken_by size entries (place + 1) = taken-more size entries place e taken (Some slot) here_is h.1 found in (
+            subst (λ (i : Index). IsIndexed i entries) (sym w.self-is) h.0,
+            ap (λ v. v.items) w.taken-is ∙ more,
+            subst (λ (i : Index). HasCrowdedOf i entries size (place + 1)) (sym w.self-is) (crowded-slot index entries size place slot e taken here_is h.1 found h.2),
           )
       | in-None+in_ok-insert_overflow-in-None w ↦
-          let full : GoesAfter slots (key_hash e.0) (length before) = subst (λ (n : ℕ). GoesAfter slots n (length before)) c.key_hash-hash.ensures (subst (λ (n : ℕ). GoesAfter slots t n) few (subst (λ (r : List Slot). GoesAfter r t place) c.as_slice.ensures.value w.in-None.ensures)) in
+          let none : slot_for taken (key_hash e.0) place ≡ None =
+          ap (λ (n : ℕ). slot_for taken n place) (sym hash) ∙ ap (λ (r : List Bool). slot_for r t place) (sym c.as_slice.ensures.value) ∙ sym w.in-None.ensures in
+          let more : taken ≡ taken_by size entries (place + 1) = taken-more size entries place e taken None here_is h.1 none in
           let later = w.insert_overflow.new.self in
           let s = w.in_ok-insert_overflow-in-None.ensures in
-          let led-later = led-put slots index later before e.0 _ place led s.put s.existing in
-          let at_e = behind-put index later entries e.0 _ place indexed there s.put s.existing in
-          let here : AreLedTo slots later (before ++ e ∷ []) = led-behind slots later before e.0 e.1 led-later new full (at_e ∙ ap Some few) in (
-            subst (λ (i : Index). IsIndexed i entries) (sym w.self-is) (indexed-put index later entries e.0 _ place indexed there (ap (λ v. v.items) s.slots) s.put s.existing),
-            subst (λ (i : Index). AreLedTo c.match-free_slot.slots.items i (take (place + 1) entries)) (sym w.self-is)
-                (subst (λ (l : List Slot). AreLedTo l later (take (place + 1) entries)) (sym (ap (λ v. v.items) w.slots-is))
-                (subst (λ (es : Blocks). AreLedTo slots later es) (sym more) here)),
+          let behind = behind-put index later entries e.0 _ place h.0 there s.put s.existing in
+          let kept : HasCrowdedOf later entries size place = crowded-later index later entries size place (λ d q is. put-keeps index later e.0 d _ place q s.put s.existing is) h.2 in (
+            subst (λ (i : Index). IsIndexed i entries) (sym w.self-is) (indexed-put index later entries e.0 _ place h.0 there (ap (λ v. v.items) s.slots) s.put s.existing),
+            ap (λ v. v.items) w.taken-is ∙ more,
+            subst (λ (i : Index). HasCrowdedOf i entries size (place + 1)) (sym w.self-is) (crowded-behind later entries size place e here_is behind kept),
           )
       | in-None+else-has_place w ↦
-          let full : GoesAfter slots (key_hash e.0) (length before) = subst (λ (n : ℕ). GoesAfter slots n (length before)) c.key_hash-hash.ensures (subst (λ (n : ℕ). GoesAfter slots t n) few (subst (λ (r : List Slot). GoesAfter r t place) c.as_slice.ensures.value w.in-None.ensures)) in
-          let old : Comes index.slots.items (place_after index e.0) (key_hash e.0) place = indexed.leads e.0 place there in
-          let at_e : place_after index e.0 ≡ Some place = w.has_place.ensures w.if-has_place.false (place_after index e.0)
-          (subst (λ (n : ℕ). Comes index.slots.items (place_after index e.0) n place) (sym c.key_hash-hash.ensures) old) in
-          let here : AreLedTo slots index (before ++ e ∷ []) = led-behind slots index before e.0 e.1 led new full (at_e ∙ ap Some few) in (
-            subst (λ (i : Index). IsIndexed i entries) (sym w.self-is) indexed,
-            subst (λ (i : Index). AreLedTo c.match-free_slot.slots.items i (take (place + 1) entries)) (sym w.self-is)
-                (subst (λ (l : List Slot). AreLedTo l index (take (place + 1) entries)) (sym (ap (λ v. v.items) w.slots-is))
-                (subst (λ (es : Blocks). AreLedTo slots index es) (sym more) here)),
+          let none : slot_for taken (key_hash e.0) place ≡ None =
+          ap (λ (n : ℕ). slot_for taken n place) (sym hash) ∙ ap (λ (r : List Bool). slot_for r t place) (sym c.as_slice.ensures.value) ∙ sym w.in-None.ensures in
+          let more : taken ≡ taken_by size entries (place + 1) = taken-more size entries place e taken None here_is h.1 none in
+          let old : Comes index.slots.items (place_after index e.0) (key_hash e.0) place = h.0.leads e.0 place there in
+          let behind : place_after index e.0 ≡ Some place = w.has_place.ensures w.if-has_place.false (place_after index e.0)
+          (subst (λ (n : ℕ). Comes index.slots.items (place_after index e.0) n place) (sym hash) old) in (
+            subst (λ (i : Index). IsIndexed i entries) (sym w.self-is) h.0,
+            ap (λ v. v.items) w.taken-is ∙ more,
+            subst (λ (i : Index). HasCrowdedOf i entries size (place + 1)) (sym w.self-is) (crowded-behind index entries size place e here_is behind h.2),
           )
     ]
-
-pub returns : goal.returns
-returns c =
-    let h = c.loop-place.invariant in
-    record {
-      distinct = h.0.distinct;
-      leads = subst (λ (l : Blocks). AreLedTo c.loop-place.slots.items c.loop-place.self l) (take_all c.loop-place.place c.args.entries.now (omega (arith, c.loop-place-test.false, c.len-place-end.ensures))) h.1;
-      true_after = h.0.true_after;
-    }
