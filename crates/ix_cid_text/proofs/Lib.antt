@@ -1,0 +1,5 @@
+pub mod Places
+pub mod Prefixes
+pub mod BitLaws
+pub mod NumberLaws
+pub mod TextLaws
