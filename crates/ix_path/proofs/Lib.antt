@@ -1,9 +1,9 @@
 pub mod Escapes
 pub mod Pieces
-pub mod Prefixes
 pub mod Nodes
 pub mod Members
 pub mod Digits
 pub mod Chosen
 pub mod Verdicts
 pub mod Routes
+pub mod Causes

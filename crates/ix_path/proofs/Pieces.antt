@@ -4,7 +4,8 @@ use Rattle.std.specs.Prelude.{if◌then◌else◌}
 use Rattle.std.specs.Global.{Vec}
 use Rattle.std.proofs.lemmas.List.{map-append}
 use Rattle.std.specs.List.{position_or_len, onto_first}
-use Rattle.ix_path.specs.Path.{◌>>=◌, pieces_of, before_slash, after_slash, unescaped, segments_from, segments_at, segments_view}
+use Rattle.ix_cid_text.specs.Location.{before_slash, after_slash}
+use Rattle.ix_path.specs.Path.{◌>>=◌, pieces_of, unescaped, segments_from, segments_at, segments_view}
 use Rattle.ix_path.proofs.Escapes.{with_one}
 
 abbrev is_slash : ℕ → Bool

@@ -1,5 +1,8 @@
 pub use Rattle.ix_cid.specs.Cid
 pub use Rattle.ix_cid.specs.CidText
+pub use Rattle.ix_cid_text.specs.Text
+pub use Rattle.ix_cid_text.specs.Location
+pub use Rattle.ix_cid_text.specs.TextWords
 pub use Rattle.ix_cbor.specs.Data
 pub use Rattle.ix_cbor.specs.DataCode
 pub use Rattle.ix_cbor.specs.Spelling
@@ -11,4 +14,5 @@ pub mod Node
 pub mod NodeBytes
 pub mod Children
 pub mod Resolution
+pub mod Causes
 pub mod Words

@@ -1,11 +1,12 @@
--- The text of a path: a root's CID and segments, with the percent-escapes of URLs (RFC 3986, section 2.1).
+-- The text of a path: a root's CID and segments, or a URL with these, with the percent-escapes of URLs (RFC 3986, section 2.1).
 use Rattle.std.specs.Prelude.{ℕ, ◌+◌, ◌-◌, ◌*◌, List, [], ◌∷◌, length, drop, map, nat_lt, nat_eq, ◌==◌, if◌then◌else◌, codes, Option, Some, None, unwrap_or, option_map, option_and_then, Result, Ok, Err}
 use Rattle.std.specs.Global.{Vec}
 use Rattle.std.specs.List.{starts_with, before_first, after_first, onto_first}
 use Rattle.hex.specs.Hex.{hex_digit_value}
 pub use Rattle.ix_cid.specs.Results.{◌>>=◌}
-use Rattle.ix_cid.specs.declared.fault.CidFault.{CidFault}
-use Rattle.ix_cid.specs.CidText.{cid_of_text}
+use Rattle.ix_cid_text.specs.declared.fault.CidTextFault.{CidTextFault}
+use Rattle.ix_cid_text.specs.Text.{cid_of_text}
+use Rattle.ix_cid_text.specs.Location.{before_slash, after_slash, location_of}
 use Rattle.ix_path.specs.declared.error.PathError.{PathError}
 use Rattle.ix_path.specs.declared.error.PathError.TheVariants.{Cid, Escape, TooManySegments}
 use Rattle.ix_path.specs.declared.path.RootPath.{RootPath}
@@ -38,12 +39,6 @@ unescaped place (x ∷ y ∷ z ∷ more) =
 
 -- ---- segments
 
-abbrev pub before_slash : List ℕ → List ℕ
-before_slash text = before_first (λ b. b == 47) text
-
-abbrev pub after_slash : List ℕ → List ℕ
-after_slash text = after_first (λ b. b == 47) text
-
 -- the texts of the segments: a slash ends each, and the last one may be without
 abbrev pub pieces_of : List ℕ → List (List ℕ)
 pieces_of [] = []
@@ -60,25 +55,12 @@ segments_at end text = segments_from (end - length text) (pieces_of text)
 
 -- ---- the whole
 
--- the text after a prefix, if it begins with it
-abbrev pub rest_after : List ℕ → List ℕ → Option (List ℕ)
-rest_after prefix text = if starts_with nat_eq text prefix then Some (drop (length prefix) text) else None
-
--- the text after the first of these prefixes that it begins with, or all of it
-abbrev pub after_one_of : List (List ℕ) → List ℕ → List ℕ
-after_one_of [] text = text
-after_one_of (p ∷ ps) text = unwrap_or (rest_after p text) (after_one_of ps text)
-
--- the text without what may be before its CID
-abbrev pub without_prefix : List ℕ → List ℕ
-without_prefix text = after_one_of (codes "/ipfs/" ∷ codes "/ipld/" ∷ codes "ipfs://" ∷ codes "ipld://" ∷ []) text
-
--- the same, with its error as that of a path
-abbrev pub as_root : Result (List ℕ) CidFault → Result (List ℕ) PathError
+-- a CID, with its error as that of a path
+abbrev pub as_root : Result (List ℕ) CidTextFault → Result (List ℕ) PathError
 as_root (Ok c) = Ok c
 as_root (Err fault) = Err (Cid fault)
 
--- the CIDv1 that a text spells in base32
+-- the CID of a text
 abbrev pub root_of : List ℕ → Result (List ℕ) PathError
 root_of text = as_root (cid_of_text text)
 
@@ -89,8 +71,7 @@ with_segments most root segments = if nat_lt most (length segments) then Err (To
 -- the root and the segments of a path, at most so many, or its first error
 abbrev pub path_of : ℕ → List ℕ → Result (List ℕ × List (List ℕ)) PathError
 path_of most text =
-    root_of (before_slash (without_prefix text)) >>= (λ root.
-    segments_at (length text) (after_slash (without_prefix text)) >>= with_segments most root)
+    root_of (location_of text).0 >>= (λ root. segments_at (location_of text).2 (location_of text).1 >>= with_segments most root)
 
 -- ---- in the program
 

@@ -1,7 +1,7 @@
 -- The words for why a text is no path, and for the kinds of nodes.
 use Rattle.std.specs.Prelude.{ℕ, List, ◌++◌, codes}
 use Rattle.std.specs.Fmt.{decimal}
-use Rattle.ix_cid.specs.FaultWords.{fault_words}
+use Rattle.ix_cid_text.specs.TextWords.{fault_words}
 use Rattle.ix_path.specs.declared.error.PathError.{PathError}
 use Rattle.ix_path.specs.declared.error.PathError.TheVariants.{Cid, Escape, TooManySegments, Memory}
 use Rattle.ix_path.specs.declared.obstacle.Kind.{Kind}

@@ -1,6 +1,6 @@
 //! Why a text is no path.
 
-use ix_cid::CidFault;
+use ix_cid_text::CidTextFault;
 use std::alloc::{AllocError, AllocFailed};
 use std::fmt;
 
@@ -9,7 +9,7 @@ use std::fmt;
 #[derive(Debug, Drop, Clone, Copy, PartialEq, Eq)]
 pub enum PathError {
     /// The text before the segments is no CID, and why.
-    Cid(CidFault),
+    Cid(CidTextFault),
     /// A `%` is not followed by two hex digits. This is its offset in the text, in bytes.
     Escape(usize),
     /// There are more segments than this.

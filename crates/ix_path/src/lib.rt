@@ -18,6 +18,7 @@
 mod child;
 mod error;
 mod item;
+mod malformed;
 mod node;
 mod obstacle;
 mod path;
@@ -29,6 +30,7 @@ mod tests;
 
 pub use child::index_of;
 pub use error::PathError;
+pub use malformed::{cause_word, fault_in, malformed_fault};
 pub use node::{NodeBytes, PathNode};
 pub use obstacle::{Kind, Obstacle};
 pub use path::{GREATEST_SEGMENTS, MOST_SEGMENTS, RootPath};

@@ -6,8 +6,8 @@ ghost use Rattle.ix_cid.specs.Cid.{parts_of, codec_of};
 ghost use Rattle.ix_cid.specs.Parts.{parts_view};
 ghost use Rattle.ix_store.specs.Store.{bytes_of};
 ghost use Rattle.ix_verdict.specs.Needed.{NeedsBlock};
-ghost use Rattle.ix_verdict.specs.Verdict.{passes};
 ghost use Rattle.ix_path.specs.declared.obstacle.Obstacle.TheVariants as obstacles;
+ghost use Rattle.ix_path.specs.Causes.{goes_by_bytes};
 ghost use Rattle.ix_path.specs.Resolution.{◌and_then◌, verdict_of, sound_node, entered, crossed, stepped, followed, resolution, Goes, GoesBy, IsRoute, segments_in};
 
 use crate::child::child;
@@ -174,11 +174,11 @@ fn node_under<'a>(store: &'a Store, cid: &Cid, parts: &Parts<'a>) -> End<'a>
     }
 }
 
-// Returns the verdict on a CID with these parts, and the bytes that it names, if the verdict passes.
-fn judged<'a>(store: &'a Store, cid: &Cid, parts: &Parts<'a>) -> (Verdict, &'a [u8])
+// Returns the verdict on a CID with these parts, and the bytes by which it is, if it is by any.
+pub(crate) fn judged<'a>(store: &'a Store, cid: &Cid, parts: &Parts<'a>) -> (Verdict, &'a [u8])
     requires { parts_view parts.now ≡ parts_of cid.now }
     ensures verdict { result.0 ≡ verdict_of store.now cid.now }
-    ensures bytes { passes result.0 ≡ true → bytes_of store.now cid.now ≡ Some result.1.now }
+    ensures bytes { goes_by_bytes result.0 ≡ true → bytes_of store.now cid.now ≡ Some result.1.now }
 {
     match bytes_needed(parts) {
         Needed::Nothing(verdict) => (verdict, parts.digest),
@@ -195,7 +195,7 @@ fn block_under<'a>(store: &'a Store, cid: &Cid, codec: u64) -> (Verdict, &'a [u8
     requires needed { NeedsBlock cid.now }
     requires codec { codec ≡ codec_of cid.now }
     ensures verdict { result.0 ≡ verdict_of store.now cid.now }
-    ensures bytes { passes result.0 ≡ true → bytes_of store.now cid.now ≡ Some result.1.now }
+    ensures bytes { goes_by_bytes result.0 ≡ true → bytes_of store.now cid.now ≡ Some result.1.now }
 {
     match store.find(cid) {
         None => (Verdict::Missing, &[]),

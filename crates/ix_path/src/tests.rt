@@ -14,24 +14,40 @@ const ROOT: &str = "01710037a2616182f6a161620764\
 66696c65d82a58250001551220ba7816bf8f01cfea414140de5dae2223b00361a396177a9cb410ff61f20015ad";
 
 // Texts, and their segments or error.
-const TEXTS: [(&str, &str); 14] = [
+const TEXTS: [(&str, &str); 18] = [
     ("bafkqaaa", "[]"),
     ("bafkqaaa/", "[]"),
     ("bafkqaaa/a/b", "[[97], [98]]"),
     ("/ipfs/bafkqaaa/a/", "[[97]]"),
     ("/ipld/bafkqaaa//", "[[]]"),
     ("ipfs://bafkqaaa/a//b", "[[97], [], [98]]"),
-    ("ipld://bafkqaaa/..?#", "[[46, 46, 63, 35]]"),
+    ("bafkqaaa/..?#", "[[46, 46, 63, 35]]"),
+    ("ipld://bafkqaaa/..?#", "[[46, 46]]"),
+    ("https://bafkqaaa.ipfs.dweb.link/a/%3f?x=/y", "[[97], [63]]"),
+    ("http://[::1]/ipfs/f01550000/a#b", "[[97]]"),
     ("bafkqaaa/%2f%FF%00", "[[47, 255, 0]]"),
     ("bafkqaaa/1/2/3/4", "more than 3 segments"),
+    (
+        "ipfs://bafkqaaa/a%2?%",
+        "no two hex digits after the % at byte 17",
+    ),
     ("bafkqaaa/a%2", "no two hex digits after the % at byte 10"),
     (
         "ipfs://bafkqaaa/a/%zz/%",
         "no two hex digits after the % at byte 18",
     ),
-    ("QmHash/a", "not a CID: multibase"),
-    ("", "not a CID: multibase"),
-    ("/ipns/bafkqaaa", "not a CID: multibase"),
+    (
+        "QmHash/a",
+        "not a CID: neither a multibase prefix nor the 46 characters of a CIDv0",
+    ),
+    (
+        "",
+        "not a CID: neither a multibase prefix nor the 46 characters of a CIDv0",
+    ),
+    (
+        "/ipns/bafkqaaa",
+        "not a CID: neither a multibase prefix nor the 46 characters of a CIDv0",
+    ),
 ];
 
 // What is made of a text of at most three segments.

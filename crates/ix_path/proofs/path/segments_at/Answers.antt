@@ -2,7 +2,8 @@ use Rattle.std.proofs.Common.{◌≡◌, ◌<◌, ◌-◌, ℕ, List, length, sy
 use Rattle.std.specs.Prelude.{Result, Ok}
 use Rattle.std.proofs.lemmas.Result.{err_from_is_err_and}
 use Rattle.ix_path.specs.declared.error.PathError.{PathError}
-use Rattle.ix_path.specs.Path.{◌>>=◌, before_slash, after_slash, unescaped, segments_at, segments_view}
+use Rattle.ix_cid_text.specs.Location.{before_slash, after_slash}
+use Rattle.ix_path.specs.Path.{◌>>=◌, unescaped, segments_at, segments_view}
 use Rattle.ix_path.specs.Gives.{Fails}
 use Rattle.ix_path.proofs.Escapes.{after_front, after_front-one, Fails-after, with_one}
 use Rattle.ix_path.proofs.Pieces.{segments_at-first, after_slash-shorter, segments_view-push}
@@ -14,7 +15,7 @@ returns-in_err-segment c =
     let end = c.args.end in
     let error = c.in_err-segment.field-0.0 in
     let some : 0 < length rest = search rules in
-    let piece : c.as_bytes.result.now ≡ before_slash rest = c.as_bytes.ensures.value ∙ c.split_piece.ensures.first in
+    let piece : c.as_bytes.result.now ≡ before_slash rest = c.as_bytes.ensures.value ∙ ap (λ (p : List ℕ × List ℕ). p.0) c.split_piece.ensures.exact in
     let failed : Fails error (unescaped (end - length rest) (before_slash rest)) =
     subst (λ (l : List ℕ). Fails error (unescaped (end - length rest) l)) piece c.in_err-segment.ensures in
     let front = segments_view c.loop-rest.segments in
@@ -31,13 +32,13 @@ loop-rest-preserved c =
     let segment = c.in_ok-segment.segment.items in
     let front = segments_view c.loop-rest.segments in
     let some : 0 < length rest = search rules in
-    let piece : c.as_bytes.result.now ≡ before_slash rest = c.as_bytes.ensures.value ∙ c.split_piece.ensures.first in
+    let piece : c.as_bytes.result.now ≡ before_slash rest = c.as_bytes.ensures.value ∙ ap (λ (p : List ℕ × List ℕ). p.0) c.split_piece.ensures.exact in
     let read : unescaped (end - length rest) (before_slash rest) ≡ Ok segment = ap (unescaped (end - length rest)) (sym piece) ∙ c.in_ok-segment.ensures in (
       search rules,
-      omega (arith, ap length c.split_piece.ensures.rest, after_slash-shorter rest some, c.loop-rest.invariant.1),
+      omega (arith, ap length (ap (λ (p : List ℕ × List ℕ). p.1) c.split_piece.ensures.exact), after_slash-shorter rest some, c.loop-rest.invariant.1),
       ap (λ (l : List (List ℕ)). after_front l (segments_at end after)) (segments_view-push c.loop-rest.segments c.push.new.self c.in_ok-segment.segment c.in_ok-push.ensures.items)
           ∙ after_front-one front segment (segments_at end after)
-          ∙ ap (λ (l : List ℕ). after_front front (with_one segment (segments_at end l))) c.split_piece.ensures.rest
+          ∙ ap (λ (l : List ℕ). after_front front (with_one segment (segments_at end l))) (ap (λ (p : List ℕ × List ℕ). p.1) c.split_piece.ensures.exact)
           ∙ ap (λ (r : Result (List ℕ) PathError). after_front front (r >>= (λ s. with_one s (segments_at end (after_slash rest))))) (sym read)
           ∙ ap (after_front front) (sym (segments_at-first end rest some c.loop-rest.invariant.1))
           ∙ c.loop-rest.invariant.2,
