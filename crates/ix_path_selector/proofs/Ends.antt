@@ -1,5 +1,5 @@
 -- The data at the end of a path, and the block and the errors of the selector along it.
-use Rattle.std.proofs.Common.{◌≡◌, ◌≢◌, ℕ, true, false, List, refl, sym, ◌∙◌, ap, subst, arith}
+use Rattle.std.proofs.Common.{◌≡◌, ◌≢◌, ℕ, true, false, List, [], refl, sym, ◌∙◌, ap, subst, arith}
 use Rattle.std.specs.Prelude.{Result, Ok, Err, bytes_eq, codes, if◌then◌else◌}
 use Rattle.ix_cbor.specs.Data.{Data, map, no_entries, entry}
 use Rattle.ix_cbor.specs.Spelling.{IsSpellable, IsCanonical, spelling_of}
@@ -8,6 +8,7 @@ use Rattle.ix_selector.specs.declared.fault.SelFault.TheVariants as reasons
 use Rattle.ix_selector.specs.Gives.{Fails}
 use Rattle.ix_selector.specs.Pattern.{Pattern, matcher, everything, outside, greatest_nesting, IsSelector}
 use Rattle.ix_selector.specs.Enters.{Path}
+use Rattle.ix_selector.specs.IsEntered.{is_entered}
 use Rattle.ix_selector.specs.Reading.{selector_of, without_envelope}
 use Rattle.ix_selector.specs.Examples.{matcher_data, everything_data}
 use Rattle.ix_selector.specs.Spelled.{SpellsPattern, as_matcher, no_label, as_recursive, as_no_limit, as_all, as_edge}
@@ -17,10 +18,11 @@ use Rattle.ix_path_selector.specs.declared.fault.PathSelectorFault.TheVariants a
 use Rattle.ix_path_selector.specs.declared.end.PathEnd.{PathEnd}
 use Rattle.ix_path_selector.specs.declared.end.PathEnd.TheVariants as ends
 use Rattle.ix_path_selector.specs.Along.{pattern_along, data_along}
-use Rattle.ix_path_selector.specs.End.{selector_at_end, SpellsRead}
+use Rattle.ix_path_selector.specs.End.{read_at_end, selector_at_end, SpellsRead}
 use Rattle.ix_path_selector.specs.Made.{IsSelectorAlong, HasNoSelectorAlong, IsRead, SpellsTooDeep}
 use Rattle.ix_path_selector.proofs.Along.{spelled_along, guarded_along, along_is_read, deep_by_reading}
 use Rattle.ix_path_selector.proofs.Nodes.{matcher_spellable, everything_spellable}
+use Rattle.ix_path_selector.proofs.OwnPlace.{entering_stays, other_is_matcher}
 
 -- the matcher at the end
 pub matcher_end : (end : PathEnd) (d : Data) → end ≡ ends.Node → d ≡ matcher_data → SpellsRead (selector_at_end end) d
@@ -47,15 +49,20 @@ inside_canonical (map (entry k d (entry l e es))) h = h.parts
 inside_canonical (map no_entries) h = h.parts
 inside_canonical other h = h.parts
 
--- what a tree is read as at the end
-pub tree_end : (tree d : Data) (s : Pattern) → selector_of tree ≡ Ok s → IsSelector s → IsCanonical tree → d ≡ without_envelope tree → SpellsRead (selector_of tree) d
-tree_end tree d s read rules canonical same = record {
+-- what a tree is read as at the end, if it enters its own place
+pub tree_end : (tree d : Data) (s : Pattern) → selector_of tree ≡ Ok s → IsSelector s → is_entered s [] ≡ true → IsCanonical tree → d ≡ without_envelope tree → SpellsRead (read_at_end (selector_of tree)) d
+tree_end tree d s read rules entered canonical same = record {
   selector = s;
-  is = read;
+  is = ap read_at_end read ∙ ap (λ q. Ok q) (entering_stays s entered);
   rules = rules;
   spelled = subst (λ x. SpellsPattern x s) (sym same) (at_spelled greatest_nesting outside (without_envelope tree) s read);
   spellable = subst IsSpellable (sym same) (inside_canonical tree canonical);
 }
+
+-- and otherwise the matcher
+pub replaced_end : (tree d : Data) (s : Pattern) → selector_of tree ≡ Ok s → is_entered s [] ≡ false → d ≡ matcher_data → SpellsRead (read_at_end (selector_of tree)) d
+replaced_end tree d s read out same =
+    subst (λ r. SpellsRead r d) (sym (ap read_at_end read ∙ ap (λ q. Ok q) (other_is_matcher s out))) (matcher_end ends.Node d refl same)
 
 -- the block of a tree that is read
 pub made_along : (p : Path) (end : PathEnd) (d tree : Data) (block : List ℕ) → SpellsRead (selector_at_end end) d → tree ≡ data_along p d → IsRead tree → IsCanonical tree → block ≡ spelling_of tree → IsSelectorAlong p end block
@@ -77,17 +84,19 @@ refused_along p end d tree faults.TooDeep at same spellable h = record {
 }
 refused_along p end d tree faults.Memory at same spellable h = tt
 
+-- a reading that doesn't fail for memory has the fault
+pub failed : (f : SelFault) (r : Result Pattern SelFault) → Fails f r → f ≢ reasons.Memory → r ≡ Err f
+failed reasons.Memory r h other = absurd (other refl)
+failed reasons.NotMap r h other = h
+failed reasons.Keys r h other = h
+failed reasons.Unknown r h other = h
+failed (reasons.Unsupported form) r h other = h
+failed reasons.Kind r h other = h
+failed reasons.Depth r h other = h
+failed reasons.EdgeOutside r h other = h
+failed reasons.EdgeUnguarded r h other = h
+failed reasons.Nesting r h other = h
+
 -- what isn't read although it is spelled nests too deep
 pub unread_deep : (tree : Data) (fault : SelFault) → Fails fault (selector_of tree) → fault ≢ reasons.Memory → SpellsTooDeep tree faults.TooDeep
-unread_deep tree fault h other = λ s spelled guarded spellable. deep_by_reading tree s fault (failed fault (selector_of tree) h other) spelled guarded where
-  failed : (f : SelFault) (r : Result Pattern SelFault) → Fails f r → f ≢ reasons.Memory → r ≡ Err f
-  failed reasons.Memory r h other = absurd (other refl)
-  failed reasons.NotMap r h other = h
-  failed reasons.Keys r h other = h
-  failed reasons.Unknown r h other = h
-  failed (reasons.Unsupported form) r h other = h
-  failed reasons.Kind r h other = h
-  failed reasons.Depth r h other = h
-  failed reasons.EdgeOutside r h other = h
-  failed reasons.EdgeUnguarded r h other = h
-  failed reasons.Nesting r h other = h
+unread_deep tree fault h other = λ s spelled guarded spellable. deep_by_reading tree s fault (failed fault (selector_of tree) h other) spelled guarded

@@ -1,10 +1,17 @@
 -- Which places the selector along a path enters.
 use Rattle.std.proofs.Common.{◌≡◌, ℕ, List, [], ◌∷◌, ◌++◌, refl, sym, ◌∙◌, ap, subst, append-nil, pos, inl, inr}
-use Rattle.std.specs.Prelude.{◌⊎◌, None}
+use Rattle.std.specs.Prelude.{◌⊎◌, None, Result, Ok, Err}
+use Rattle.ix_selector.specs.declared.fault.SelFault.{SelFault}
 use Rattle.ix_selector.specs.Pattern.{Pattern, matcher, all, fields, index, edge, no_fields, field, everything}
 use Rattle.ix_selector.specs.Enters.{Step, key, nth, Path, first, later, Enters, at_matcher, at_all, at_fields, at_index, below_all, below_fields, below_index, in_recursion, at_edge}
+use Rattle.ix_selector.specs.Reading.{selector_of}
+use Rattle.ix_selector.proofs.Guarded.{err_no_ok, ok_same, reads_selector}
+use Rattle.ix_path_selector.specs.declared.end.PathEnd.{PathEnd}
+use Rattle.ix_path_selector.specs.declared.end.PathEnd.TheVariants as ends
 use Rattle.ix_path_selector.specs.Along.{pattern_along}
-use Rattle.ix_path_selector.specs.Entered.{IsBeforeEnd, IsEnteredFromEnd, IsOn, IsBelow, EntersAlong, EntersThePath, EntersAllBelow}
+use Rattle.ix_path_selector.specs.End.{read_at_end, selector_at_end}
+use Rattle.ix_path_selector.specs.Entered.{IsBeforeEnd, IsEnteredFromEnd, IsOn, IsBelow, EntersAlong, EntersThePath, EntersAllBelow, EntersItsEnd, KeepsWhatEnters}
+use Rattle.ix_path_selector.proofs.OwnPlace.{end_entered, kept_at_end}
 
 -- a field selects its key alone
 fields_step : {k : List ℕ} {s : Pattern} {t : Step} {place : Path} → Enters (fields (field k s no_fields)) [] (t ∷ place) → (t ≡ key k) × Enters s [] place
@@ -87,3 +94,20 @@ below_each p place (inr h) = inr (record { rest = h.rest; place_is = h.place_is;
 
 pub enters_all_below : EntersAllBelow
 enters_all_below = λ p place. (λ h. below_only p place (only p everything place h), λ h. each p everything place (below_each p place h))
+
+-- what was read for an end enters its own place
+read_entered : (read : Result Pattern SelFault) (s : Pattern) → read_at_end read ≡ Ok s → Enters s [] []
+read_entered (Ok t) s h = subst (λ q. Enters q [] []) (ok_same _ s h) (end_entered t)
+read_entered (Err fault) s h = err_no_ok fault h
+
+-- and so does whatever is at an end
+at_end_entered : (end : PathEnd) (s : Pattern) → selector_at_end end ≡ Ok s → Enters s [] []
+at_end_entered ends.Node s h = subst (λ q. Enters q [] []) (ok_same matcher s h) at_matcher
+at_end_entered ends.Everything s h = subst (λ q. Enters q [] []) (ok_same everything s h) (all_entered [])
+at_end_entered (ends.Selector d) s h = read_entered (selector_of d) s h
+
+pub enters_its_end : EntersItsEnd
+enters_its_end = λ end s p place at on. each p s place (on_path p s place on.rest on.path (at_end_entered end s at))
+
+pub keeps_what_enters : KeepsWhatEnters
+keeps_what_enters = λ d s place read h. ap read_at_end read ∙ ap (λ q. Ok q) (kept_at_end s place (reads_selector d s read) h)

@@ -1,8 +1,13 @@
 -- Which places the selector along a path enters (IPLD Selectors specification).
-use Rattle.std.specs.Prelude.{◌≡◌, ◌↔◌, ◌⊎◌, [], ◌∷◌, ◌++◌}
+use Rattle.std.specs.Prelude.{◌≡◌, ◌↔◌, ◌⊎◌, [], ◌∷◌, ◌++◌, Ok}
+use Rattle.ix_cbor.specs.Data.{Data}
 use Rattle.ix_selector.specs.Pattern.{Pattern, matcher, everything}
 use Rattle.ix_selector.specs.Enters.{Step, Path, Enters}
+use Rattle.ix_selector.specs.Reading.{selector_of}
+use Rattle.ix_path_selector.specs.declared.end.PathEnd.{PathEnd}
+use Rattle.ix_path_selector.specs.declared.end.PathEnd.TheVariants.{Selector}
 use Rattle.ix_path_selector.specs.Along.{pattern_along}
+use Rattle.ix_path_selector.specs.End.{selector_at_end}
 
 -- the place is on the path, before its end
 pub record IsBeforeEnd (p place : Path) : Type 0 where
@@ -39,3 +44,15 @@ EntersThePath = (p place : Path) → (Enters (pattern_along p matcher) [] place 
 -- with everything at the end, those on the path and each below its end
 abbrev pub EntersAllBelow : Type 0
 EntersAllBelow = (p place : Path) → (Enters (pattern_along p everything) [] place ↔ (IsOn p place ⊎ IsBelow p place))
+
+-- whatever is given for the end, entered are all places on the path, its end too
+abbrev pub EntersItsEnd : Type 0
+EntersItsEnd =
+    (end : PathEnd) (s : Pattern) (p place : Path)
+    → selector_at_end end ≡ Ok s → IsOn p place → Enters (pattern_along p s) [] place
+
+-- a selector that is given for the end, and enters any place, is the one at the end
+abbrev pub KeepsWhatEnters : Type 0
+KeepsWhatEnters =
+    (d : Data) (s : Pattern) (place : Path)
+    → selector_of d ≡ Ok s → Enters s [] place → selector_at_end (Selector d) ≡ Ok s

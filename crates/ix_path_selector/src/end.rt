@@ -4,10 +4,11 @@ ghost use Rattle.std.specs.Prelude.{◌≡◌, IfOk, IfErr};
 ghost use Rattle.ix_cbor.specs.Data.{data_of, map, node_entries};
 ghost use Rattle.ix_selector.specs.Reading.{selector_of, without_envelope};
 ghost use Rattle.ix_selector.specs.Examples.{matcher_data, everything_data};
-ghost use Rattle.ix_path_selector.specs.End.{is_enveloped, selector_at_end, SpellsRead, IsUnread};
+ghost use Rattle.ix_path_selector.specs.End.{is_enveloped, read_at_end, selector_at_end, SpellsRead, IsUnread};
 
 use crate::fault::PathSelectorFault;
 use crate::node::{one_key, two_keys};
+use crate::nothing::enters_its_place;
 use ix_cbor::{Node, Tree};
 use ix_selector::{SelFault, Selector};
 use std::alloc::{AllocError, Global};
@@ -19,7 +20,8 @@ pub enum PathEnd {
     Node,
     /// Everything below.
     Everything,
-    /// What this selector selects from there. It may be in the envelope.
+    /// What this selector selects from there. It may be in the envelope. The node alone counts in
+    /// place of one that enters nothing, such as an empty union.
     Selector(Tree),
 }
 
@@ -53,13 +55,21 @@ fn everything_node(alloc: Global) -> Result<Node, AllocError>
     one_key(alloc, b"R", recursion)
 }
 
-// Returns the node of a selector without an envelope, or why the tree is no selector.
+// Returns the node of a selector without an envelope, or that of the matcher in place of one that
+// enters nothing, or why the tree is no selector.
 fn selector_node(alloc: Global, tree: Tree) -> Result<Node, PathSelectorFault>
-    ensures node { IfOk result (λ node. SpellsRead (selector_of tree) (data_of node)) }
-    ensures refused { IfErr result (IsUnread (selector_of tree)) }
+    ensures node { IfOk result (λ node.
+        SpellsRead (read_at_end (selector_of tree)) (data_of node)) }
+    ensures refused { IfErr result (IsUnread (read_at_end (selector_of tree))) }
 {
     match Selector::read(alloc, &tree) {
-        Ok(_) => Ok(without_envelope(tree.into_root())),
+        Ok(selector) => {
+            if enters_its_place(alloc, &selector)? {
+                Ok(without_envelope(tree.into_root()))
+            } else {
+                Ok(matcher_node(alloc)?)
+            }
+        }
         Err(SelFault::Memory) => Err(PathSelectorFault::Memory),
         Err(fault) => Err(PathSelectorFault::End(fault)),
     }

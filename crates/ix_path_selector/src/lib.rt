@@ -12,6 +12,7 @@ mod end;
 mod fault;
 pub mod law;
 mod node;
+mod nothing;
 mod selector;
 mod steps;
 #[cfg(test)]

@@ -16,8 +16,8 @@ use std::alloc::Global;
 
 /// Returns the selector that goes from a root along the steps of a path, as DAG-CBOR: at each step
 /// a field or an index, and at the end what is selected there. `law::along_a_path` states which
-/// places it enters. The errors are that what was given for the end is no selector, that the
-/// whole nests more than 128 deep, and that memory ran out.
+/// places it enters: those on the path always, its end too. The errors are that what was given for
+/// the end is no selector, that the whole nests more than 128 deep, and that memory ran out.
 pub fn selector_along(
     alloc: Global,
     steps: &[Step<'_>],

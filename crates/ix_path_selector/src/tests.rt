@@ -13,6 +13,12 @@ const A_2: &[u8] = b"\xa1\x61f\xa1\x62f>\xa1\x61a\xa1\x61i\xa2\x61>\xa1\x61.\xa0
 const EVERYTHING: &[u8] =
     b"\xa1\x61R\xa2\x61l\xa1\x64none\xa0\x62:>\xa1\x61a\xa1\x61>\xa1\x61@\xa0";
 
+// {"|":[]}
+const EMPTY_UNION: &[u8] = b"\xa1\x61|\x80";
+
+// {"R":{"l":{"none":{}},":>":{"|":[]}}}
+const RECURSION_OVER_IT: &[u8] = b"\xa1\x61R\xa2\x61l\xa1\x64none\xa0\x62:>\xa1\x61|\x80";
+
 #[test]
 fn along_a_key_and_an_index(rt: HostRuntime) -> Result<(), Fail> {
     let alloc = rt.alloc();
@@ -29,6 +35,19 @@ fn along_a_key_and_an_index(rt: HostRuntime) -> Result<(), Fail> {
     assert!(rt; enveloped.as_slice() == A_2);
     let all = selector_along(alloc, &[], PathEnd::Everything)?;
     assert!(rt; all.as_slice() == EVERYTHING);
+    Ok(())
+}
+
+#[test]
+fn an_end_that_enters_nothing(rt: HostRuntime) -> Result<(), Fail> {
+    let alloc = rt.alloc();
+    let steps = [Step::Key(b"a"), Step::Pos(2)];
+    let union = decode(alloc, EMPTY_UNION)?;
+    let along = selector_along(alloc, &steps, PathEnd::Selector(union))?;
+    assert!(rt; along.as_slice() == A_2);
+    let recursion = decode(alloc, RECURSION_OVER_IT)?;
+    let along = selector_along(alloc, &steps, PathEnd::Selector(recursion))?;
+    assert!(rt; along.as_slice() == A_2);
     Ok(())
 }
 
