@@ -9,6 +9,7 @@ pub mod Received
 mod Expansions
 mod NextLinks
 mod Traversing
+mod Verdicts
 mod Passings
 mod Receptions
 mod Refusals

@@ -1,6 +1,6 @@
 -- A section is received, or refused.
 use Rattle.std.proofs.Common.{◌≡◌, ◌⊎◌, inl, inr, ℕ, suc, ◌+◌, ◌<◌, ◌≤◌, Bool, true, false, cond, List, [], ◌∷◌, ◌++◌, map, drop, take-append-drop, append_assoc, append-nil, refl, sym, ◌∙◌, ap, subst, arith, ltb-true, ltb-false}
-use Rattle.std.specs.Prelude.{Option, Some, None, is_some, nat_lt, if◌then◌else◌, bytes_eq}
+use Rattle.std.specs.Prelude.{Option, Some, None, not, ◌&&◌, is_some, nat_lt, if◌then◌else◌, bytes_eq}
 use Rattle.std.specs.List.{Contains, count_by, list_any}
 use Rattle.std.specs.Ordering.{nat_cmp}
 use Rattle.std.specs.Cmp.Lexicographic.{slice_cmp}
@@ -16,7 +16,9 @@ use Rattle.ix_cid.specs.declared.hash_function.HashFunction.TheVariants.{Identit
 use Rattle.ix_verdict.specs.declared.verdict.Verdict.{Verdict}
 use Rattle.ix_verdict.specs.declared.verdict.Verdict.TheVariants.{Codec, Hash, Missing, Damaged, Malformed, Sound, Inline}
 use Rattle.ix_verdict.specs.Verdict.{has_codec, verdict_by, verdict_with, is_missing, is_no_data}
+use Rattle.ix_verdict.specs.Verdict.{passes as verdict_passes}
 use Rattle.ix_store.specs.Store.{Blocks, has_cid}
+use Rattle.ix_check.specs.Verdict.{verdict_of}
 use Rattle.ix_walk.specs.declared.subtree.PendingLink.{PendingLink}
 use Rattle.ix_walk.specs.JobMeaning.{JobMeaning}
 use Rattle.ix_walk.specs.Arrivals.{Arrival}
@@ -34,9 +36,11 @@ use Rattle.ix_receive.specs.declared.allow_missing.AllowMissing.{AllowMissing}
 use Rattle.ix_receive.specs.declared.counts.Counts.{Counts}
 use Rattle.ix_receive.specs.declared.traversal.Traversal.{Traversal}
 use Rattle.ix_receive.specs.Receiving.{first_visits, AreReceived, IsNextSection}
-use Rattle.ix_receive.specs.Missing.{lacks_block}
+use Rattle.ix_receive.specs.declared.traversal.Skips.{Skips}
+use Rattle.ix_receive.specs.Missing.{lacks_block, is_unread}
+use Rattle.ix_receive.specs.Roots.{RootsPass}
 use Rattle.ix_receive.specs.Traversal.{AreSound, visited, expanded_by, links_of, IsTraversed, Expands, as_pending}
-use Rattle.ix_receive.specs.Passing.{has, KnowsMissing, IsPassing, IsBefore, IsNeeded, IsStopped, IsFound, IsAtEnd, IsPassed}
+use Rattle.ix_receive.specs.Passing.{has, KnowsSkips, IsNotedThere, IsPassing, IsBefore, IsNeeded, IsStopped, IsFound, IsAtEnd, IsPassed}
 use Rattle.ix_receive.specs.Reception.{IsReceiving, IsReceived, IsWhole, reception_with}
 use Rattle.ix_receive.proofs.Lookup.{no-block}
 use Rattle.ix_receive.proofs.Received.{visits-first, none-at-first, stored-visited, received-stay, received-own, next-received, own-block, section-block}
@@ -48,9 +52,9 @@ use Rattle.ix_receive.proofs.Passings.{knows-there, put-links}
 
 module _ (job : JobMeaning) (allowed : AllowMissing) (sections : Blocks) (t u : Traversal) (is : IsPassing job allowed sections t) where
   -- it is taken, within the limit
-  pub before : (f : PendingLink) → IsNextLink job.selector (map as_pending t.links.items) t.roots.now (Some f) (map as_pending u.links.items) u.roots.now → u.expanded ≡ t.expanded → u.visits ≡ t.visits → u.missing ≡ t.missing → u.absent ≡ t.absent
+  pub before : (f : PendingLink) → IsNextLink job.selector (map as_pending t.links.items) t.roots.now (Some f) (map as_pending u.links.items) u.roots.now → u.expanded ≡ t.expanded → u.visits ≡ t.visits → u.skips ≡ t.skips
       → (t.visits ≡ job.limit → ⊥) → IsBefore job allowed sections f u
-  before f next expanded visits missing absent not =
+  before f next expanded visits skips not =
       let low = is.traversed.low in
       let within : t.visits < job.limit = omega arith in
       record {
@@ -60,9 +64,7 @@ module _ (job : JobMeaning) (allowed : AllowMissing) (sections : Blocks) (t u : 
             subst (λ k. IsTraversed k job sections (expanded_by u.expanded) (f ∷ links_of job.selector u)) (sym visits)
             (subst (λ (s : BTreeSet _). IsTraversed t.visits job sections (expanded_by s) (f ∷ links_of job.selector u)) (sym expanded)
             (subst (IsTraversed t.visits job sections (expanded_by t.expanded)) next.links is.traversed));
-        missing =
-            subst (λ k. KnowsMissing k job allowed sections u.missing u.absent) (sym visits)
-            (subst (λ (s : BTreeSet _). KnowsMissing t.visits job allowed sections s u.absent) (sym missing) (subst (KnowsMissing t.visits job allowed sections t.missing) (sym absent) is.missing));
+        skips = subst (λ k. KnowsSkips k job allowed sections u.skips) (sym visits) (subst (λ (s : Skips). KnowsSkips t.visits job allowed sections s) (sym skips) is.skips);
       }
 
   -- at the limit it is one too many
@@ -133,12 +135,27 @@ sound-there Malformed h = refl
 sound-there Sound h = refl
 sound-there Inline h = refl
 
+-- nor that the CID isn't read
+sound-read : (v : Verdict) → is_sound v ≡ true → (not (verdict_passes v) && not (is_missing v)) ≡ false
+sound-read Codec h = absurd (cc h)
+sound-read Hash h = absurd (cc h)
+sound-read Missing h = refl
+sound-read Damaged h = absurd (cc h)
+sound-read Malformed h = absurd (cc h)
+sound-read Sound h = refl
+sound-read Inline h = refl
+
+-- one that is read adds none
+none-unread : (b : Bool) → b ≡ false → (k : ℕ) → k ≡ k + (if b then 1 else 0)
+none-unread true h k = absurd (cc h)
+none-unread false h k = omega arith
+
 -- so a sound section whose CID was visited without it is among the missing
-pub new-cid : (job : JobMeaning) (allowed : AllowMissing) (sections : Blocks) (t : Traversal) (p : List ℕ × List ℕ) → IsPassing job allowed sections t → is_sound (verdict_with p.0 (Some p.1)) ≡ true → has_cid sections p.0 ≡ false → has t.missing p.0 ≡ false
+pub new-cid : (job : JobMeaning) (allowed : AllowMissing) (sections : Blocks) (t : Traversal) (p : List ℕ × List ℕ) → IsPassing job allowed sections t → is_sound (verdict_with p.0 (Some p.1)) ≡ true → has_cid sections p.0 ≡ false → has t.skips.missing p.0 ≡ false
     → Contains (visited t.visits job sections) p.0 → ⊥
 new-cid job allowed sections t p is sound out not i =
     let lacks : lacks_block sections p.0 ≡ true = ap (λ o. is_missing (verdict_with p.0 o)) (no-block sections p.0 out) ∙ could-have (hash_function_of (parts_of p.0)) p.0 p.1 sound in
-    let bad : false ≡ true = sym not ∙ is.missing.recorded p.0 i lacks in cc bad
+    let bad : false ≡ true = sym not ∙ is.skips.recorded p.0 i lacks in cc bad
 
 -- ---- numbers
 
@@ -220,16 +237,24 @@ module _ (base : Blocks) (job : JobMeaning) (allowed : AllowMissing) (sections :
   pub now-traversed : IsTraversed n job more (expanded_by t.expanded) (f ∷ links)
   now-traversed = grows n job now (expanded_by t.expanded) (f ∷ links) p traversed found.first
 
+  -- the verdicts stay
+  kept-verdict : (c : List ℕ) → Contains (visited n job now) c → verdict_of more c ≡ verdict_of now c
+  kept-verdict c i = ap (λ o. verdict_with c o) (kept-block now p c (λ e. found.first (subst (Contains (visited n job now)) (sym e) i)))
+
   -- what was missing still is
   kept-lacks : (c : List ℕ) → Contains (visited n job now) c → lacks_block more c ≡ lacks_block now c
-  kept-lacks c i = ap (λ o. is_missing (verdict_with c o)) (kept-block now p c (λ e. found.first (subst (Contains (visited n job now)) (sym e) i)))
+  kept-lacks c i = ap is_missing (kept-verdict c i)
+
+  -- and what isn't read still isn't
+  kept-unread : (c : List ℕ) → Contains (visited n job now) c → is_unread more c ≡ is_unread now c
+  kept-unread c i = ap (λ v. not (verdict_passes v) && not (is_missing v)) (kept-verdict c i)
 
   same-visits : visited n job more ≡ visited n job now
   same-visits = grown-visits n job now (expanded_by t.expanded) (f ∷ links) p traversed found.first
 
-  kept-knows : KnowsMissing n job allowed more t.missing t.absent
+  kept-knows : KnowsSkips n job allowed more t.skips
   kept-knows =
-      let knows = found.before.missing in
+      let knows = found.before.skips in
       let back : (c : List ℕ) → Contains (visited n job more) c → Contains (visited n job now) c = λ c i. subst (λ l. Contains l c) same-visits i in
       record {
         recorded = λ c i lacks. knows.recorded c (back c i) (sym (kept-lacks c (back c i)) ∙ lacks);
@@ -238,14 +263,25 @@ module _ (base : Blocks) (job : JobMeaning) (allowed : AllowMissing) (sections :
         count =
             knows.count ∙ sym (count-same (lacks_block more) (lacks_block now) (visited n job now) (λ c i. kept-lacks c (contains-in c (visited n job now) i)))
             ∙ ap (count_by (lacks_block more)) (sym same-visits);
+        unread =
+            knows.unread ∙ sym (count-same (is_unread more) (is_unread now) (visited n job now) (λ c i. kept-unread c (contains-in c (visited n job now) i)))
+            ∙ ap (count_by (is_unread more)) (sym same-visits);
       }
 
   -- and its block isn't
   here : lacks_block more p.0 ≡ false
   here = ap (λ o. is_missing (verdict_with p.0 o)) (section-block base job sections p n so-far is-next) ∙ sound-there (verdict_with p.0 (Some p.1)) sound
 
+  -- it is read
+  read : is_unread more p.0 ≡ false
+  read = ap (λ o. not (verdict_passes (verdict_with p.0 o)) && not (is_missing (verdict_with p.0 o))) (section-block base job sections p n so-far is-next) ∙ sound-read (verdict_with p.0 (Some p.1)) sound
+
+  -- so its visit skips nothing
+  none-skipped : IsNotedThere more p.0 t.skips t.skips
+  none-skipped = record { missing = refl; absent = refl; unread = none-unread (is_unread more p.0) read t.skips.unread }
+
   -- its link was expanded
-  module _ (u : Traversal) (expanded : Expands (base ++ (sections ++ p ∷ [])) f t.expanded (map as_pending t.links.items) u.expanded (map as_pending u.links.items)) (roots : u.roots.now ≡ t.roots.now) (visits : u.visits ≡ n + 1) (missing : u.missing ≡ t.missing) (absent : u.absent ≡ t.absent) where
+  module _ (u : Traversal) (expanded : Expands (base ++ (sections ++ p ∷ [])) f t.expanded (map as_pending t.links.items) u.expanded (map as_pending u.links.items)) (roots : u.roots.now ≡ t.roots.now) (visits : u.visits ≡ n + 1) (skips : u.skips ≡ t.skips) where
     expands : Expands more f t.expanded (map as_pending t.links.items) u.expanded (map as_pending u.links.items)
     expands = subst (λ (s : Blocks). Expands s f t.expanded (map as_pending t.links.items) u.expanded (map as_pending u.links.items)) (sym same-more) expanded
 
@@ -263,16 +299,15 @@ module _ (base : Blocks) (job : JobMeaning) (allowed : AllowMissing) (sections :
           traversed =
               subst (λ k. IsTraversed k job more (expanded_by u.expanded) (links_of job.selector u)) (sym count)
               (steps n job more (expanded_by t.expanded) f links now-traversed (expanded_by u.expanded) (links_of job.selector u) found.before.within expands.expanded put);
-          missing =
-              subst (λ k. KnowsMissing k job allowed more u.missing u.absent) (sym count)
-              (subst (λ (s : BTreeSet (List ℕ)). KnowsMissing (suc n) job allowed more s u.absent) (sym missing)
-              (subst (KnowsMissing (suc n) job allowed more t.missing) (sym absent) (knows-there n job allowed more t.missing t.absent kept-knows p.0 last here)));
+          skips =
+              subst (λ k. KnowsSkips k job allowed more u.skips) (sym count)
+              (subst (λ (s : Skips). KnowsSkips (suc n) job allowed more s) (sym skips) (knows-there n job allowed more t.skips kept-knows p.0 last t.skips here none-skipped));
         }
 
     pub is-received : (store : Blocks × Blocks) → store.0 ≡ base → store.1 ≡ sections ++ p ∷ [] → IsReceived job allowed (base, sections) old.visits p store u
     is-received store kept same = record {
       place = n;
-      next = record { later = found.later; within = found.before.within; next = is-next; may = found.before.missing.may };
+      next = record { later = found.later; within = found.before.within; next = is-next; may = found.before.skips.may };
       base = kept;
       added = same;
       visits_now = count;
@@ -288,30 +323,31 @@ module _ (base : Blocks) (job : JobMeaning) (allowed : AllowMissing) (sections :
 
 -- ---- the beginning and the end
 
-pub none-received : (base : Blocks) (job : JobMeaning) (allowed : AllowMissing) (t : Traversal) → AreSound base → IsFollowed job.selector → t.expanded.keys ≡ [] → t.links.items ≡ [] → t.roots.now ≡ job.roots → t.visits ≡ 0 → t.missing.keys ≡ [] → t.absent ≡ 0
+pub none-received : (base : Blocks) (job : JobMeaning) (allowed : AllowMissing) (t : Traversal) → AreSound base → IsFollowed job.selector → t.expanded.keys ≡ [] → t.links.items ≡ [] → t.roots.now ≡ job.roots → t.visits ≡ 0 → t.skips.missing.keys ≡ [] → t.skips.absent ≡ 0 → t.skips.unread ≡ 0
     → IsReceiving base job allowed [] t
-none-received base job allowed t all_sound is expanded links roots visits missing absent =
+none-received base job allowed t all_sound is expanded links roots visits missing absent unread =
     let none : IsTraversed 0 job (base ++ []) (expanded_by t.expanded) (map (root_link job.selector) job.roots) = begins job (base ++ []) (expanded_by t.expanded) is (expanded-none t.expanded expanded) in
     let all : links_of job.selector t ≡ map (root_link job.selector) job.roots = ap (λ ls. all_waiting job.selector (map as_pending ls) t.roots.now) links ∙ ap (map (root_link job.selector)) roots in
-    let empty : (c : List ℕ) → has t.missing c ≡ false = λ c. ap (λ ks. list_any (is_at (slice_cmp nat_cmp c)) ks) missing in
+    let empty : (c : List ℕ) → has t.skips.missing c ≡ false = λ c. ap (λ ks. list_any (is_at (slice_cmp nat_cmp c)) ks) missing in
     record {
       received = subst (λ k. AreReceived base k job []) (sym visits) (none-at-first base job);
       least = λ m h. subst (λ k. k ≤ m) (sym visits) (omega arith);
       passing = record {
         sound = subst AreSound (sym (append-nil base)) all_sound;
         traversed = subst (λ k. IsTraversed k job (base ++ []) (expanded_by t.expanded) (links_of job.selector t)) (sym visits) (subst (IsTraversed 0 job (base ++ []) (expanded_by t.expanded)) (sym all) none);
-        missing = subst (λ k. KnowsMissing k job allowed (base ++ []) t.missing t.absent) (sym visits) (record {
+        skips = subst (λ k. KnowsSkips k job allowed (base ++ []) t.skips) (sym visits) (record {
           recorded = λ c i. absurd (in-contains c [] i);
           met = λ c i. absurd (let bad : false ≡ true = sym (empty c) ∙ i in cc bad);
           may = λ c i. absurd (in-contains c [] i);
           count = absent;
+          unread = unread;
         });
       };
     }
 
 pub is-whole : (base : Blocks) (job : JobMeaning) (allowed : AllowMissing) (sections : Blocks) (old new : Traversal) (ended : Bool) (counts : Counts) → IsReceiving base job allowed sections old → IsAtEnd job allowed (base ++ sections) old new
-    → counts.visits ≡ new.visits → counts.missing ≡ new.absent → IsWhole (reception_with base job allowed sections old.visits ended) counts
-is-whole base job allowed sections old new ended counts was end visits missing =
+    → RootsPass (base ++ sections) job.roots → counts.visits ≡ new.visits → counts.missing ≡ new.skips.absent → counts.unread ≡ new.skips.unread → IsWhole (reception_with base job allowed sections old.visits ended) counts
+is-whole base job allowed sections old new ended counts was end roots visits missing unread =
     let store = base ++ sections in
     let done = at-end job allowed store new end.passing end.ends in
     let low : new.visits ≤ suc job.limit = let h = done.low in omega arith in
@@ -319,7 +355,9 @@ is-whole base job allowed sections old new ended counts was end visits missing =
     let all : visited (suc job.limit) job store ≡ visited new.visits job store = ends-visits new.visits (suc job.limit) job store (expanded_by new.expanded) low done in
     record {
       own = λ number. received-own base job sections old.visits was.received number first (ends-within new.visits job store (expanded_by new.expanded) done);
-      may = λ c i. end.passing.missing.may c (subst (λ l. Contains l c) all i);
+      may = λ c i. end.passing.skips.may c (subst (λ l. Contains l c) all i);
+      roots = roots;
       visits = visits ∙ sym (ends-count new.visits job store (expanded_by new.expanded) done);
-      missing = missing ∙ end.passing.missing.count ∙ ap (count_by (lacks_block store)) (sym all);
+      missing = missing ∙ end.passing.skips.count ∙ ap (count_by (lacks_block store)) (sym all);
+      unread = unread ∙ end.passing.skips.unread ∙ ap (count_by (is_unread store)) (sym all);
     }

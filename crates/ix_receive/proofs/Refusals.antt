@@ -11,7 +11,7 @@ use Rattle.ix_walk.proofs.Reaches.{contains-in}
 use Rattle.ix_archive.specs.Archive.{is_sound}
 use Rattle.ix_receive.specs.declared.allow_missing.AllowMissing.{AllowMissing}
 use Rattle.ix_receive.specs.declared.fault.ReceiveFault.{ReceiveFault}
-use Rattle.ix_receive.specs.declared.fault.ReceiveFault.TheVariants.{Unsound, InBase, Repeated, OutOfOrder, NotAskedFor, Missing, Limit, Ended, Memory}
+use Rattle.ix_receive.specs.declared.fault.ReceiveFault.TheVariants.{Unsound, InBase, Repeated, OutOfOrder, NotAskedFor, Missing, Root, Limit, Ended, Memory}
 use Rattle.ix_receive.specs.Receiving.{first_visits, AreReceived, IsNextSection}
 use Rattle.ix_receive.specs.Traversal.{visited}
 use Rattle.ix_receive.specs.Passing.{IsNeeded, IsNotFound, IsNotAtEnd}
@@ -55,6 +55,7 @@ module _ (base : Blocks) (job : JobMeaning) (allowed : AllowMissing) (sections :
   rightly ended OutOfOrder h = cant (λ n low is next. next.first (visited-more job store visits n p.0 (least n is) h.1)) ended
   rightly ended NotAskedFor h = cant (λ n low is next. h.1 (visited-more job store (suc n) (suc job.limit) p.0 (omega (arith, low)) (next-in base n job sections p next))) ended
   rightly ended (Missing c) h = nowhere h.0 c h.1 h.2 ended
+  rightly ended (Root c v) h = absurd h
   rightly ended Limit h = cant (λ n low is next. h.1 (visited-more job store (suc n) job.limit p.0 low (next-in base n job sections p next))) ended
   rightly ended Ended h = tt
   rightly ended Memory h = tt
@@ -67,6 +68,7 @@ module _ (base : Blocks) (job : JobMeaning) (allowed : AllowMissing) (sections :
   rightly-not-found OutOfOrder h = absurd h
   rightly-not-found NotAskedFor h = rightly false NotAskedFor h
   rightly-not-found (Missing c) h = rightly false (Missing c) h
+  rightly-not-found (Root c v) h = absurd h
   rightly-not-found Limit h = rightly false Limit h
   rightly-not-found Ended h = absurd h
   rightly-not-found Memory h = tt
@@ -81,6 +83,7 @@ refused base job allowed sections visits ended p Repeated h = h
 refused base job allowed sections visits ended p OutOfOrder h = h
 refused base job allowed sections visits ended p NotAskedFor h = h
 refused base job allowed sections visits ended p (Missing c) h = h
+refused base job allowed sections visits ended p (Root c v) h = absurd h
 refused base job allowed sections visits ended p Limit h = h
 refused base job allowed sections visits ended p Ended h = absurd (cc h)
 refused base job allowed sections visits ended p Memory h = h
@@ -93,6 +96,7 @@ unfinished base job allowed sections visits ended Repeated h = h
 unfinished base job allowed sections visits ended OutOfOrder h = h
 unfinished base job allowed sections visits ended NotAskedFor h = h
 unfinished base job allowed sections visits ended (Missing c) h = h
+unfinished base job allowed sections visits ended (Root c v) h = absurd h
 unfinished base job allowed sections visits ended Limit h = h
 unfinished base job allowed sections visits ended Ended h = absurd h
 unfinished base job allowed sections visits ended Memory h = h

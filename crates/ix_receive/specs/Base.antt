@@ -12,6 +12,7 @@ use Rattle.ix_archive.specs.KnownPlaces.{knows, known_by}
 use Rattle.ix_archive.specs.Laws.{once}
 use Rattle.ix_receive.specs.Own.{base_known, IsItsOwnWith}
 use Rattle.ix_receive.specs.Receiving.{sections_at}
+use Rattle.ix_receive.specs.Traversal.{AreSound}
 
 -- the known blocks of a store: the first copy under each CID, if it is sound
 abbrev pub known_blocks : Blocks → Blocks
@@ -25,6 +26,10 @@ base_of (Some store) = known_blocks store.now
 -- the blocks of a base, and after them the sections that have come
 abbrev pub store_of : Blocks × Blocks → Blocks
 store_of s = s.0 ++ s.1
+
+-- all these blocks are sound
+abbrev pub HaveSound : Blocks × Blocks → Type 0
+HaveSound s = AreSound (store_of s)
 
 -- the known blocks of a store are sound by themselves, and their CIDs are those that are known to a receiver that has the store
 pub record AreKnown (store : Blocks) : Type 0 where

@@ -5,4 +5,5 @@ pub mod Keeping
 pub mod Traversal
 pub mod Base
 pub mod Passing
+pub mod Roots
 pub mod Reception

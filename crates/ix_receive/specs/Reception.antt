@@ -11,11 +11,12 @@ use Rattle.ix_archive.specs.Archive.{is_sound}
 use Rattle.ix_archive.specs.Laws.{once}
 use Rattle.ix_receive.specs.declared.allow_missing.AllowMissing.{AllowMissing}
 use Rattle.ix_receive.specs.declared.fault.ReceiveFault.{ReceiveFault}
-use Rattle.ix_receive.specs.declared.fault.ReceiveFault.TheVariants.{Unsound, InBase, Repeated, OutOfOrder, NotAskedFor, Missing, Limit, Ended, Memory}
+use Rattle.ix_receive.specs.declared.fault.ReceiveFault.TheVariants.{Unsound, InBase, Repeated, OutOfOrder, NotAskedFor, Missing, Root, Limit, Ended, Memory}
 use Rattle.ix_receive.specs.declared.counts.Counts.{Counts}
 use Rattle.ix_receive.specs.Own.{AreTheirOwnWith}
 use Rattle.ix_receive.specs.Receiving.{AreReceived, IsNextSection}
-use Rattle.ix_receive.specs.Missing.{lacks_block}
+use Rattle.ix_receive.specs.Missing.{lacks_block, is_unread}
+use Rattle.ix_receive.specs.Roots.{RootsPass, IsRootWith}
 use Rattle.ix_receive.specs.Traversal.{visited}
 use Rattle.ix_receive.specs.Passing.{MayLack, IsPassing, IsNeeded}
 use Rattle.ix_receive.specs.declared.traversal.Traversal.{Traversal}
@@ -95,6 +96,7 @@ IsRefused r p NotAskedFor =
     (is_over_limit (all_blocks r) (once r.job) ≡ false) × (Contains (cids_of (arrivals_of (all_blocks r) (once r.job))) p.0 → ⊥)
 IsRefused r p (Missing c) =
     (n : ℕ) × IsNeeded n r.job r.allowed (all_blocks r) c × (Contains (visited (suc n) r.job (all_blocks r)) p.0 → ⊥)
+IsRefused r p (Root c v) = ⊥
 IsRefused r p Limit =
     (is_over_limit (all_blocks r) (once r.job) ≡ true) × (Contains (visited r.job.limit r.job (all_blocks r)) p.0 → ⊥)
 IsRefused r p Ended = r.ended ≡ true
@@ -122,17 +124,20 @@ IsRightlyRefused r p Repeated = CantGoOn r p
 IsRightlyRefused r p OutOfOrder = CantGoOn r p
 IsRightlyRefused r p NotAskedFor = CantGoOn r p
 IsRightlyRefused r p (Missing c) = IsNowhereNext r p
+IsRightlyRefused r p (Root c v) = ⊥
 IsRightlyRefused r p Limit = CantGoOn r p
 IsRightlyRefused r p Ended = Unit {0}
 IsRightlyRefused r p Memory = Unit {0}
 
--- The sections are their own archive with the base, and no visit leads to a block that is missing and may not be. The counts are those of the
--- visits over them.
+-- The sections are their own archive with the base, each root is sound or inline, and no visit leads to a block that is missing and may
+-- not be. The counts are those of the visits over them.
 pub record IsWhole (r : Reception) (counts : Counts) : Type 0 where
   pub own : (number : ℕ) → AreTheirOwnWith r.base number (once r.job) r.sections
   pub may : MayLack r.job r.allowed (all_blocks r) (cids_of (arrivals_of (all_blocks r) (once r.job)))
+  pub roots : RootsPass (all_blocks r) r.job.roots
   pub visits : counts.visits ≡ length (arrivals_of (all_blocks r) (once r.job))
   pub missing : counts.missing ≡ count_by (lacks_block (all_blocks r)) (cids_of (arrivals_of (all_blocks r) (once r.job)))
+  pub unread : counts.unread ≡ count_by (is_unread (all_blocks r)) (cids_of (arrivals_of (all_blocks r) (once r.job)))
 
 -- why the end of an archive is refused
 abbrev pub IsUnfinished : Reception → ReceiveFault → Type 0
@@ -142,6 +147,7 @@ IsUnfinished r Repeated = ⊥
 IsUnfinished r OutOfOrder = ⊥
 IsUnfinished r NotAskedFor = ⊥
 IsUnfinished r (Missing c) = (n : ℕ) × IsNeeded n r.job r.allowed (all_blocks r) c
+IsUnfinished r (Root c v) = IsRootWith (all_blocks r) r.job.roots c v
 IsUnfinished r Limit = is_over_limit (all_blocks r) (once r.job) ≡ true
 IsUnfinished r Ended = r.ended ≡ true
 IsUnfinished r Memory = Unit {0}

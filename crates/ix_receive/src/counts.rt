@@ -7,4 +7,7 @@ pub struct Counts {
     pub visits: u32,
     /// The number of those whose block is missing.
     pub missing: u32,
+    /// The number of those whose CID isn't read: its codec or hash function is unknown, or it is an identity
+    /// CID whose bytes aren't DAG-CBOR although its codec is.
+    pub unread: u32,
 }

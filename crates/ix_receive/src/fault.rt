@@ -19,6 +19,8 @@ pub enum ReceiveFault {
     NotAskedFor,
     /// The block of this CID is expected here, and may not be missing.
     Missing(Cid),
+    /// The root with this CID can't be exported: the verdict on it. Only the end is refused so.
+    Root(Cid, Verdict),
     /// The job has more visits than its limit.
     Limit,
     /// The receiver has refused something before, or out of memory.

@@ -3,29 +3,17 @@
 ghost use Rattle.std.specs.Prelude.{◌≡◌, ◌+◌, ◌<◌, ◌^◌, IfOk, IfErr, OnOk, MatchOption};
 ghost use Rattle.std.specs.List.{Contains};
 ghost use Rattle.ix_receive.specs.Base.{store_of};
-ghost use Rattle.ix_receive.specs.Missing.{may_lack, lacks_block};
+ghost use Rattle.ix_receive.specs.Missing.{may_lack};
 ghost use Rattle.ix_receive.specs.Traversal.{as_pending, visited};
-ghost use Rattle.ix_receive.specs.Passing.{IsNoted, IsPassing, IsBefore, IsStopped, IsPassed, IsFound, IsNotFound, IsAtEnd, IsNotAtEnd};
+ghost use Rattle.ix_receive.specs.Passing.{CanNote, IsNoted, IsNotedMissing, IsPassing, IsBefore, IsStopped, IsPassed, IsFound, IsNotFound, IsAtEnd, IsNotAtEnd};
 
 use crate::fault::ReceiveFault;
 use crate::request::Request;
 use crate::sections::Sections;
-use crate::traversal::{Traversal, WaitingLink, expand_link, next_link};
+use crate::traversal::{Skips, Traversal, WaitingLink, expand_link, next_link};
 use ix_cid::Cid;
-use ix_verdict::{Needed, bytes_needed};
+use ix_verdict::Verdict;
 use std::alloc::AllocError;
-use std::collections::BTreeSet;
-
-// Whether a CID could have a block, and none is here.
-fn lacks_block(sections: &Sections<'_>, cid: &Cid) -> bool
-    ensures { result ≡ lacks_block (store_of sections.now) cid.now }
-{
-    match bytes_needed(&cid.parts()) {
-        Needed::Nothing(_) => false,
-        Needed::Digest => false,
-        Needed::Block(_) => !sections.has(cid),
-    }
-}
 
 // Whether a block may be missing under a CID.
 fn may_lack(asked: &Request<'_>, cid: &Cid) -> bool
@@ -34,26 +22,38 @@ fn may_lack(asked: &Request<'_>, cid: &Cid) -> bool
     asked.allowed.allows(cid) && !asked.job.roots().contains(cid)
 }
 
-// Notes the visit of a CID, if its block is missing. Returns whether that may be.
+// Notes the visit of a CID, if its block is missing or it isn't read. Returns whether that may be.
 fn note_visit(
     asked: &Request<'_>,
     sections: &Sections<'_>,
     cid: &Cid,
-    missing: &mut BTreeSet<Cid>,
-    absent: &mut u32,
+    skips: &mut Skips,
 ) -> Result<bool, AllocError>
-    requires { absent.old + 1 < 2 ^ 32 }
+    requires { CanNote (store_of sections.now) skips.old }
     ensures { IfOk result (IsNoted asked.now.allowed asked.now.job.now.roots
-        (store_of sections.now) cid.now missing.old absent.old missing.new absent.new) }
+        (store_of sections.now) cid.now skips.old skips.new) }
 {
-    if !lacks_block(sections, cid) {
-        return Ok(true);
+    match sections.verdict(cid) {
+        Verdict::Sound | Verdict::Inline => Ok(true),
+        Verdict::Missing => note_missing(asked, cid, skips),
+        Verdict::Codec | Verdict::Hash | Verdict::Damaged | Verdict::Malformed => {
+            skips.unread += 1;
+            Ok(true)
+        }
     }
+}
+
+// Notes the visit of a CID whose block is missing. Returns whether that may be.
+fn note_missing(asked: &Request<'_>, cid: &Cid, skips: &mut Skips) -> Result<bool, AllocError>
+    requires { skips.old.absent + 1 < 2 ^ 32 }
+    ensures { IfOk result (IsNotedMissing asked.now.allowed asked.now.job.now.roots cid.now
+        skips.old skips.new) }
+{
     if !may_lack(asked, cid) {
         return Ok(false);
     }
-    missing.insert(cid.try_clone(asked.alloc)?)?;
-    *absent += 1;
+    skips.missing.insert(cid.try_clone(asked.alloc)?)?;
+    skips.absent += 1;
     Ok(true)
 }
 
@@ -71,7 +71,7 @@ fn pass_link<'s>(
         (IsPassed asked.now.job.now asked.now.allowed (store_of sections.now) (as_pending link.entry) t.old t.new)
         (IsStopped asked.now.job.now asked.now.allowed (store_of sections.now) (as_pending link.entry) t.old)) }
 {
-    let passes = note_visit(asked, sections, &link.cid, &mut t.missing, &mut t.absent)?;
+    let passes = note_visit(asked, sections, &link.cid, &mut t.skips)?;
     if !passes {
         let WaitingLink {
             residual: _,

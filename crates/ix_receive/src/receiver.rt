@@ -2,8 +2,9 @@
 
 ghost use Rattle.std.specs.Prelude.{◌≡◌, true, false, map, Some, IfOk, IfErr, OnOk, OnErr};
 ghost use Rattle.ix_verdict.specs.Verdict.{verdict_with};
-ghost use Rattle.ix_receive.specs.Base.{known_blocks};
+ghost use Rattle.ix_receive.specs.Base.{HaveSound, known_blocks, store_of};
 ghost use Rattle.ix_receive.specs.Keeping.{kept_of};
+ghost use Rattle.ix_receive.specs.Roots.{RootsPass, IsRootRefused};
 ghost use Rattle.ix_receive.specs.Reception.{nothing_received, nothing_received_with, IsReceiving, IsReceived, Receives, reception_with, IsRefused, IsRightlyRefused, IsWhole, IsUnfinished};
 
 use crate::allow_missing::AllowMissing;
@@ -14,7 +15,7 @@ use crate::passing::{advance_to, pass_all};
 use crate::request::Request;
 use crate::section::is_sound;
 use crate::sections::Sections;
-use crate::traversal::{Traversal, expand_link};
+use crate::traversal::{Skips, Traversal, expand_link};
 use ix_cid::Cid;
 use ix_selector::law;
 use ix_store::{Store, verdict_on};
@@ -97,13 +98,28 @@ fn receive<'s>(
     if sections.has_come(&cid) {
         return Err(ReceiveFault::Repeated);
     }
-    if t.missing.contains(&cid) {
+    if t.skips.missing.contains(&cid) {
         return Err(ReceiveFault::OutOfOrder);
     }
     let link = advance_to(asked, sections, &cid, t)?;
     sections.add(cid, block)?;
     expand_link(asked.alloc, sections, link, &mut t.expanded, &mut t.links)?;
     t.visits += 1;
+    Ok(())
+}
+
+// Checks that the verdict on each root is Sound or Inline.
+fn check_roots(asked: &Request<'_>, sections: &Sections<'_>) -> Result<(), ReceiveFault>
+    requires { HaveSound sections.now }
+    ensures pass { OnOk result (RootsPass (store_of sections.now) asked.now.job.now.roots) }
+    ensures refused { IfErr result (IsRootRefused (store_of sections.now) asked.now.job.now.roots) }
+{
+    for root in asked.job.roots() {
+        let verdict = sections.verdict(root);
+        if !verdict.passes() {
+            return Err(ReceiveFault::Root(root.try_clone(asked.alloc)?, verdict));
+        }
+    }
     Ok(())
 }
 
@@ -149,8 +165,11 @@ impl<'s> Receiver<'s> {
                 links: Vec::new(alloc),
                 roots: job.roots(),
                 visits: 0,
-                missing: BTreeSet::new(alloc),
-                absent: 0,
+                skips: Skips {
+                    missing: BTreeSet::new(alloc),
+                    absent: 0,
+                    unread: 0,
+                },
             },
             ended: false,
         }
@@ -198,8 +217,8 @@ impl<'s> Receiver<'s> {
         Ok(())
     }
 
-    /// Ends the archive. The sections are then its own archive, and no block is missing that may
-    /// not be.
+    /// Ends the archive. The sections are then its own archive, each root is sound or inline, and no block is
+    /// missing that may not be.
     pub fn finish(self) -> Result<Counts, ReceiveFault>
         ensures whole { IfOk result (IsWhole self.entry) }
         ensures refused { IfErr result (IsUnfinished self.entry) }
@@ -219,9 +238,11 @@ impl<'s> Receiver<'s> {
         }
         self.ended = true;
         pass_all(&self.asked, &self.sections, &mut self.traversal)?;
+        check_roots(&self.asked, &self.sections)?;
         Ok(Counts {
             visits: self.traversal.visits,
-            missing: self.traversal.absent,
+            missing: self.traversal.skips.absent,
+            unread: self.traversal.skips.unread,
         })
     }
 

@@ -6,13 +6,15 @@ ghost use Rattle.ix_store.specs.Store.{has_cid, value_of};
 ghost use Rattle.ix_walk.specs.Arriving.{IsValue};
 ghost use Rattle.ix_walk.specs.Descent.{IsItem};
 ghost use Rattle.ix_receive.specs.Keeping.{kept_of};
-ghost use Rattle.ix_receive.specs.Base.{store_of};
+ghost use Rattle.ix_check.specs.Verdict.{verdict_of};
+ghost use Rattle.ix_receive.specs.Base.{HaveSound, store_of};
 
 use crate::base::Base;
-use ix_check::History;
+use ix_check::{History, verdict_in};
 use ix_cid::Cid;
 use ix_cid::code::DAG_CBOR;
 use ix_store::{Cursor, Store};
+use ix_verdict::{Needed, Verdict, bytes_needed};
 use ix_walk::read_block;
 use std::alloc::{AllocError, Global};
 use std::marker::Model;
@@ -122,6 +124,25 @@ impl<'s> Sections<'s> {
         ensures { result ≡ has_cid (store_of self.now) cid.now }
     {
         self.is_in_base(cid) || self.has_come(cid)
+    }
+
+    // Returns the verdict on a CID. A block that is here is sound.
+    pub(crate) fn verdict(&self, cid: &Cid) -> Verdict
+        requires { HaveSound self.now }
+        ensures { result ≡ verdict_of (store_of self.now) cid.now }
+    {
+        match bytes_needed(&cid.parts()) {
+            Needed::Nothing(verdict) => verdict,
+            // It depends on the CID alone.
+            Needed::Digest => verdict_in(&self.kept, cid),
+            Needed::Block(_) => {
+                if self.has(cid) {
+                    Verdict::Sound
+                } else {
+                    Verdict::Missing
+                }
+            }
+        }
     }
 
     // Returns the store that has the block of a CID, if there is one.

@@ -55,6 +55,18 @@ d82a58250001551220ba7816bf8f01cfea414140de5dae2223b00361a396177a9cb410ff61f20015
 d82a58250001551220e3b0c44298fc1c149afbf4c8996fb92427ae41e4649b934ca495991b7852b855\
 d82a58250001551220ba7816bf8f01cfea414140de5dae2223b00361a396177a9cb410ff61f20015ad";
 
+// `abc` as dag-pb, and under BLAKE3: a codec and a hash function that aren't read.
+const DAG_PB: &str = "01701220ba7816bf8f01cfea414140de5dae2223b00361a396177a9cb410ff61f20015ad";
+
+const BLAKE3: &str = "01551e20ba7816bf8f01cfea414140de5dae2223b00361a396177a9cb410ff61f20015ad";
+
+// An identity CID whose byte is no DAG-CBOR.
+const NO_DATA: &str = "01710001ff";
+
+// A list of a link to the first, in an identity CID.
+const FOREIGN: &str = "0171002a\
+81d82a58250001701220ba7816bf8f01cfea414140de5dae2223b00361a396177a9cb410ff61f20015ad";
+
 // The selector of everything below.
 const ALL: &str = "a16152a2616ca1646e6f6e65a0623a3ea16161a1613ea16140a0";
 
@@ -85,6 +97,7 @@ fn word(alloc: Global, fault: &ReceiveFault) -> Result<String, Fail> {
             let digest = hex::encode(alloc, cid.digest())?;
             format!(in alloc; "missing {digest}")
         }
+        ReceiveFault::Root(_, verdict) => format!(in alloc; "root {verdict}"),
         ReceiveFault::Limit => format!(in alloc; "limit"),
         ReceiveFault::Ended => format!(in alloc; "ended"),
         ReceiveFault::Memory => format!(in alloc; "memory"),
@@ -116,7 +129,10 @@ fn found_by(alloc: Global, receiver: Receiver<'_>, sections: &[Pair]) -> Result<
     }
     match receiver.finish() {
         Ok(counts) => {
-            let (visits, missing) = (counts.visits, counts.missing);
+            let (visits, missing, unread) = (counts.visits, counts.missing, counts.unread);
+            if unread > 0 {
+                return Ok(format!(in alloc; "{visits} visits, {unread} unread")?);
+            }
             Ok(format!(in alloc; "{visits} visits, {missing} missing")?)
         }
         Err(fault) => {
@@ -274,5 +290,21 @@ fn a_limit(rt: HostRuntime) -> Result<(), Fail> {
     assert_eq!(rt; short.as_str(), "3: limit");
     let enough = found(alloc, OUTER.0, 4, AllowMissing::none(), sections.as_slice())?;
     assert_eq!(rt; enough.as_str(), "4 visits, 0 missing");
+    Ok(())
+}
+
+// A header alone is no archive of a root that isn't read. A link to such a CID is counted.
+#[test]
+fn what_is_not_read(rt: HostRuntime) -> Result<(), Fail> {
+    let alloc = rt.alloc();
+    let allowed = AllowMissing::all();
+    let codec = found(alloc, DAG_PB, 10, allowed, &[])?;
+    assert_eq!(rt; codec.as_str(), "end: root codec");
+    let hash = found(alloc, BLAKE3, 10, allowed, &[])?;
+    assert_eq!(rt; hash.as_str(), "end: root hash");
+    let malformed = found(alloc, NO_DATA, 10, allowed, &[])?;
+    assert_eq!(rt; malformed.as_str(), "end: root malformed");
+    let link = found(alloc, FOREIGN, 10, allowed, &[])?;
+    assert_eq!(rt; link.as_str(), "2 visits, 1 unread");
     Ok(())
 }

@@ -2,8 +2,8 @@
 
 ghost use Rattle.std.specs.Prelude.{◌≡◌, ◌+◌, ◌<◌, ◌^◌, map, option_map, IfOk, IfSome, OnOk};
 ghost use Rattle.ix_lists.specs.Waiting.{IsPutBefore, IsNextLink};
-ghost use Rattle.ix_receive.specs.Base.{store_of};
-ghost use Rattle.ix_receive.specs.Traversal.{as_pending, AreSound, Expands};
+ghost use Rattle.ix_receive.specs.Base.{HaveSound, store_of};
+ghost use Rattle.ix_receive.specs.Traversal.{as_pending, Expands};
 
 use crate::request::Request;
 use crate::sections::Sections;
@@ -35,10 +35,19 @@ pub(crate) struct Traversal<'s> {
     pub roots: &'s [Cid],
     // The number of visits.
     pub visits: u32,
-    // The CIDs that it has visited while their blocks were missing.
+    // What it has skipped.
+    pub skips: Skips,
+}
+
+// The visits at which a traversal doesn't continue.
+#[derive(Drop)]
+pub(crate) struct Skips {
+    // The CIDs that were visited while their blocks were missing.
     pub missing: BTreeSet<Cid>,
     // The number of visits of these.
     pub absent: u32,
+    // The number of visits of CIDs that aren't read.
+    pub unread: u32,
 }
 
 // Puts links before those that wait.
@@ -102,7 +111,7 @@ pub(crate) fn expand_link<'s>(
     waiting: &mut Vec<WaitingLink<'s>>,
 ) -> Result<(), AllocError>
     requires depth { link.depth + 1 < 2 ^ 32 }
-    requires sound { AreSound (store_of sections.now) }
+    requires sound { HaveSound sections.now }
     ensures { OnOk result (Expands (store_of sections.now) (as_pending link.entry) expanded.old
         (map as_pending waiting.old.items) expanded.new (map as_pending waiting.new.items)) }
 {

@@ -17,7 +17,7 @@ returns-then-t-limit-clause-refused c =
     let allowed = c.args.asked.now.allowed in
     let s = store_of c.args.sections.now in
     let t : Traversal = c.loop-link.t in
-    let u : Traversal = record { expanded = t.expanded; links = c.next_link.new.links; roots = c.next_link.new.roots; visits = t.visits; missing = t.missing; absent = t.absent } in
+    let u : Traversal = record { expanded = t.expanded; links = c.next_link.new.links; roots = c.next_link.new.roots; visits = t.visits; skips = t.skips } in
     let next = subst (λ (o : Option WaitingLink). IsNextLink job.selector (map as_pending t.links.items) t.roots.now (option_map as_pending o) (map as_pending u.links.items) u.roots.now) c.in-Some.is c.in_ok-link.ensures in
     let at : t.visits ≡ job.limit = c.if-t-limit.true ∙ c.limit.ensures in
     (too-many job allowed s t u c.loop-link.invariant.1 (as_pending c.in-Some.link) next at, subst (λ k. Contains (visited k job s) c.args.cid.now → ⊥) at c.loop-link.invariant.2)
@@ -28,9 +28,9 @@ returns-then-eq-clause-found c =
     let allowed = c.args.asked.now.allowed in
     let s = store_of c.args.sections.now in
     let t : Traversal = c.loop-link.t in
-    let u : Traversal = record { expanded = t.expanded; links = c.next_link.new.links; roots = c.next_link.new.roots; visits = t.visits; missing = t.missing; absent = t.absent } in
+    let u : Traversal = record { expanded = t.expanded; links = c.next_link.new.links; roots = c.next_link.new.roots; visits = t.visits; skips = t.skips } in
     let next = subst (λ (o : Option WaitingLink). IsNextLink job.selector (map as_pending t.links.items) t.roots.now (option_map as_pending o) (map as_pending u.links.items) u.roots.now) c.in-Some.is c.in_ok-link.ensures in
-    let link = before job allowed s t u c.loop-link.invariant.1 (as_pending c.in-Some.link) next refl refl refl refl (λ e. c.if-t-limit.false (e ∙ sym c.limit.ensures)) in
+    let link = before job allowed s t u c.loop-link.invariant.1 (as_pending c.in-Some.link) next refl refl refl (λ e. c.if-t-limit.false (e ∙ sym c.limit.ensures)) in
     let within = link.within in
     let limit = c.limit.ensures in
     record {
@@ -47,9 +47,9 @@ pass_link-requires-clause-few c =
     let allowed = c.args.asked.now.allowed in
     let s = store_of c.args.sections.now in
     let t : Traversal = c.loop-link.t in
-    let u : Traversal = record { expanded = t.expanded; links = c.next_link.new.links; roots = c.next_link.new.roots; visits = t.visits; missing = t.missing; absent = t.absent } in
+    let u : Traversal = record { expanded = t.expanded; links = c.next_link.new.links; roots = c.next_link.new.roots; visits = t.visits; skips = t.skips } in
     let next = subst (λ (o : Option WaitingLink). IsNextLink job.selector (map as_pending t.links.items) t.roots.now (option_map as_pending o) (map as_pending u.links.items) u.roots.now) c.in-Some.is c.in_ok-link.ensures in
-    let link = before job allowed s t u c.loop-link.invariant.1 (as_pending c.in-Some.link) next refl refl refl refl (λ e. c.if-t-limit.false (e ∙ sym c.limit.ensures)) in
+    let link = before job allowed s t u c.loop-link.invariant.1 (as_pending c.in-Some.link) next refl refl refl (λ e. c.if-t-limit.false (e ∙ sym c.limit.ensures)) in
     let within = link.within in
     let limit = c.limit.ensures in
     omega (arith, within, limit)
@@ -60,9 +60,9 @@ pass_link-requires-clause-before c =
     let allowed = c.args.asked.now.allowed in
     let s = store_of c.args.sections.now in
     let t : Traversal = c.loop-link.t in
-    let u : Traversal = record { expanded = t.expanded; links = c.next_link.new.links; roots = c.next_link.new.roots; visits = t.visits; missing = t.missing; absent = t.absent } in
+    let u : Traversal = record { expanded = t.expanded; links = c.next_link.new.links; roots = c.next_link.new.roots; visits = t.visits; skips = t.skips } in
     let next = subst (λ (o : Option WaitingLink). IsNextLink job.selector (map as_pending t.links.items) t.roots.now (option_map as_pending o) (map as_pending u.links.items) u.roots.now) c.in-Some.is c.in_ok-link.ensures in
-    before job allowed s t u c.loop-link.invariant.1 (as_pending c.in-Some.link) next refl refl refl refl (λ e. c.if-t-limit.false (e ∙ sym c.limit.ensures))
+    before job allowed s t u c.loop-link.invariant.1 (as_pending c.in-Some.link) next refl refl refl (λ e. c.if-t-limit.false (e ∙ sym c.limit.ensures))
 
 pub returns-in-Some-2-clause-refused : goal.returns-in-Some-2-clause-refused
 returns-in-Some-2-clause-refused c =
@@ -71,7 +71,7 @@ returns-in-Some-2-clause-refused c =
     let s = store_of c.args.sections.now in
     let t : Traversal = c.loop-link.t in
     let f = as_pending c.in-Some.link in
-    let u : Traversal = record { expanded = t.expanded; links = c.next_link.new.links; roots = c.next_link.new.roots; visits = t.visits; missing = t.missing; absent = t.absent } in
+    let u : Traversal = record { expanded = t.expanded; links = c.next_link.new.links; roots = c.next_link.new.roots; visits = t.visits; skips = t.skips } in
     let told = subst (λ (o : Option (List ℕ)). MatchOption o (IsPassed job allowed s f u c.pass_link.new.t) (IsStopped job allowed s f u)) c.in-Some-2.is c.in_ok-missing.ensures in
     new-before job allowed s f u c.args.cid.now c.in-Some-2.missing told (sym c.eq.ensures ∙ c.if-eq.false) c.loop-link.invariant.2
 
@@ -82,7 +82,7 @@ loop-link-preserved c =
     let s = store_of c.args.sections.now in
     let t : Traversal = c.loop-link.t in
     let f = as_pending c.in-Some.link in
-    let u : Traversal = record { expanded = t.expanded; links = c.next_link.new.links; roots = c.next_link.new.roots; visits = t.visits; missing = t.missing; absent = t.absent } in
+    let u : Traversal = record { expanded = t.expanded; links = c.next_link.new.links; roots = c.next_link.new.roots; visits = t.visits; skips = t.skips } in
     let told = subst (λ (o : Option (List ℕ)). MatchOption o (IsPassed job allowed s f u c.pass_link.new.t) (IsStopped job allowed s f u)) c.in_default-2.is c.in_ok-missing.ensures in
     let one = told.one in
     let later = c.loop-link.invariant.0 in
@@ -94,6 +94,6 @@ returns-clause-refused c =
     let allowed = c.args.asked.now.allowed in
     let s = store_of c.args.sections.now in
     let t : Traversal = c.loop-link.t in
-    let u : Traversal = record { expanded = t.expanded; links = c.next_link.new.links; roots = c.next_link.new.roots; visits = t.visits; missing = t.missing; absent = t.absent } in
+    let u : Traversal = record { expanded = t.expanded; links = c.next_link.new.links; roots = c.next_link.new.roots; visits = t.visits; skips = t.skips } in
     let next = subst (λ (o : Option WaitingLink). IsNextLink job.selector (map as_pending t.links.items) t.roots.now (option_map as_pending o) (map as_pending u.links.items) u.roots.now) c.in_default.is c.in_ok-link.ensures in
     not-asked job allowed s t c.args.cid.now c.loop-link.invariant.1 (no-link job allowed s t u c.loop-link.invariant.1 next) c.loop-link.invariant.2

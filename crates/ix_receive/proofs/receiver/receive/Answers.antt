@@ -37,14 +37,14 @@ returns-then-has_come-clause-rightly c =
 pub returns-then-contains-clause-refused : goal.returns-then-contains-clause-refused
 returns-then-contains-clause-refused c = (
   in-neither c.args.sections.now.0 c.args.sections.now.1 c.args.cid (sym c.is_in_base.ensures ∙ c.if-is_in_base.false) (sym c.has_come.ensures ∙ c.if-has_come.false),
-  c.requires.receiving.passing.missing.met c.args.cid (sym c.contains.ensures ∙ c.if-contains.true),
+  c.requires.receiving.passing.skips.met c.args.cid (sym c.contains.ensures ∙ c.if-contains.true),
 )
 
 pub returns-then-contains-clause-rightly : goal.returns-then-contains-clause-rightly
 returns-then-contains-clause-rightly c =
     rightly c.args.sections.now.0 c.args.asked.now.job.now c.args.asked.now.allowed c.args.sections.now.1 c.args.t.now.visits (c.args.cid, c.args.block.now) c.requires.receiving.received c.requires.receiving.least false OutOfOrder (
       in-neither c.args.sections.now.0 c.args.sections.now.1 c.args.cid (sym c.is_in_base.ensures ∙ c.if-is_in_base.false) (sym c.has_come.ensures ∙ c.if-has_come.false),
-      c.requires.receiving.passing.missing.met c.args.cid (sym c.contains.ensures ∙ c.if-contains.true),
+      c.requires.receiving.passing.skips.met c.args.cid (sym c.contains.ensures ∙ c.if-contains.true),
     )
 
 pub advance_to-requires-clause-first : goal.advance_to-requires-clause-first
@@ -81,6 +81,6 @@ returns-clause-received c =
     let sound : is_sound (verdict_with c.args.cid (Some c.args.block.now)) ≡ true = ap is_sound (sym c.requires.judged) ∙ sym c.is_sound.ensures ∙ c.if-not-is_sound.false in
     let added = c.in_ok-add.ensures in
     let t : Traversal = c.advance_to.new.t in
-    let u : Traversal = record { expanded = c.expand_link.new.expanded; links = c.expand_link.new.waiting; roots = t.roots; visits = t.visits + 1; missing = t.missing; absent = t.absent } in
+    let u : Traversal = record { expanded = c.expand_link.new.expanded; links = c.expand_link.new.waiting; roots = t.roots; visits = t.visits + 1; skips = t.skips } in
     is-received c.args.sections.now.0 job c.args.asked.now.allowed c.args.sections.now.1 (c.args.cid, c.args.block.now) (as_pending c.in_ok-link.link) c.args.t.now t c.requires.receiving c.in_ok-link.ensures.found sound (sym c.is_in_base.ensures ∙ c.if-is_in_base.false) u
-    (subst (λ (s : Blocks × Blocks). Expands (store_of s) (as_pending c.in_ok-link.link) t.expanded (map as_pending t.links.items) u.expanded (map as_pending u.links.items)) added c.in_ok-expand_link.ensures) refl refl refl refl c.add.new.self (ap (λ (s : Blocks × Blocks). s.0) added) (ap (λ (s : Blocks × Blocks). s.1) added)
+    (subst (λ (s : Blocks × Blocks). Expands (store_of s) (as_pending c.in_ok-link.link) t.expanded (map as_pending t.links.items) u.expanded (map as_pending u.links.items)) added c.in_ok-expand_link.ensures) refl refl refl c.add.new.self (ap (λ (s : Blocks × Blocks). s.0) added) (ap (λ (s : Blocks × Blocks). s.1) added)

@@ -21,6 +21,6 @@ pub returns-clause-whole : goal.returns-clause-whole
 returns-clause-whole c =
     let r = c.self.inside in
     let t = c.pass_all.new.t in
-    let counts : Counts = record { visits = t.visits; missing = t.absent } in
+    let counts : Counts = record { visits = t.visits; missing = t.skips.absent; unread = t.skips.unread } in
     subst (λ v. IsWhole v counts) c.self.view_is
-    (is-whole r.sections.0 r.asked.job.now r.asked.allowed r.sections.1 r.traversal t r.ended counts (c.self.invariant c.if-self.false) c.in_ok-pass_all.ensures.whole refl refl)
+    (is-whole r.sections.0 r.asked.job.now r.asked.allowed r.sections.1 r.traversal t r.ended counts (c.self.invariant c.if-self.false) c.in_ok-pass_all.ensures.whole c.in_ok-check_roots.ensures.pass refl refl refl)
