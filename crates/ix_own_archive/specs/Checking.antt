@@ -111,7 +111,8 @@ IsFaultAtWith base job allowed archive place Memory = Unit {0}
 abbrev pub IsFaultAt : JobMeaning → AllowMissing → List ℕ → ℕ → ArchiveReason → Type 0
 IsFaultAt = IsFaultAtWith []
 
--- a receiver's fault leaves open whether an archive is its own: a block is missing that may not be, or memory ran out
+-- a receiver's fault leaves open whether an archive is its own: a block is missing that may not be, a root can't be exported, or memory
+-- ran out
 abbrev pub leaves_open : ReceiveFault → Bool
 leaves_open (received.Unsound v) = false
 leaves_open received.InBase = false
@@ -119,6 +120,7 @@ leaves_open received.Repeated = false
 leaves_open received.OutOfOrder = false
 leaves_open received.NotAskedFor = false
 leaves_open (received.Missing c) = true
+leaves_open (received.Root c v) = true
 leaves_open received.Limit = false
 leaves_open received.Ended = false
 leaves_open received.Memory = true

@@ -20,6 +20,7 @@ refusal_words received.Repeated = codes "repeated"
 refusal_words received.OutOfOrder = codes "out of order"
 refusal_words received.NotAskedFor = codes "not asked for"
 refusal_words (received.Missing c) = codes "a block is missing"
+refusal_words (received.Root c v) = codes "root " ++ verdict_word v
 refusal_words received.Limit = codes "limit"
 refusal_words received.Ended = codes "ended"
 refusal_words received.Memory = codes "memory"

@@ -10,7 +10,7 @@ use Rattle.ix_own_archive.specs.declared.fault.ArchiveReason.TheVariants.{Header
 use Rattle.ix_own_archive.specs.Checking.{leaves_open, IsRightlyNot}
 use Rattle.ix_own_archive.specs.Streaming.{Stream, taken_of, IsGoing}
 
--- the reason leaves open whether an archive is its own: a block is missing that may not be, or memory ran out
+-- the reason leaves open whether an archive is its own: a block is missing that may not be, a root can't be exported, or memory ran out
 abbrev pub LeavesOpen : ArchiveReason → Type 0
 LeavesOpen (Header kind) = ⊥
 LeavesOpen OtherHeader = ⊥

@@ -184,7 +184,8 @@ IsStreamFault Any asked stream place OtherHeader = ⊥
 IsStreamFault Any asked stream place Memory = Unit {0}
 IsStreamFault Any asked stream place reason = IsFaultIn asked stream place reason
 
--- the archive that a stream is, of fewer than 2 ^ 63 bytes, isn't the job's own, unless a block is missing or memory ran out
+-- the archive that a stream is, of fewer than 2 ^ 63 bytes, isn't the job's own, unless a block is missing, a root can't be exported, or memory ran
+-- out
 abbrev pub IsRightlyNoStream : Asked → List ℕ → ArchiveReason → Type 0
 IsRightlyNoStream asked stream reason =
     (archive : List ℕ) → IsArchiveOf asked.header asked.job stream archive → length archive < 2 ^ 63 → IsRightlyNotWith asked.base asked.job archive reason

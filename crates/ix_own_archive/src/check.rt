@@ -18,13 +18,13 @@ use ix_walk::Job;
 use std::alloc::Global;
 
 /// Checks that the bytes of a CARv1 file are the own archive of a job, traversed with link-visit-once,
-/// and that no block is missing but those that may be. The counts are those of the job's visits over the
-/// archive's sections.
+/// that each root is sound or inline, and that no block is missing but those that may be. The counts are
+/// those of the job's visits over the archive's sections.
 ///
 /// The first thing that is wrong is the error. The header must be the one that is written for the job's
 /// roots, byte for byte. A section has one spelling, so one that can be read is as it is written. Bytes
 /// that are refused are the own archive of the job under no number, unless a block is missing that may
-/// not be, or memory ran out.
+/// not be, a root can't be exported, or memory ran out.
 pub fn check_archive(
     alloc: Global,
     archive: &[u8],

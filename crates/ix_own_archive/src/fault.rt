@@ -48,6 +48,7 @@ impl fmt::Display for Refusal<'_> {
             ReceiveFault::OutOfOrder => f.write_str("out of order"),
             ReceiveFault::NotAskedFor => f.write_str("not asked for"),
             ReceiveFault::Missing(_) => f.write_str("a block is missing"),
+            ReceiveFault::Root(_, verdict) => write!(f, "root {verdict}"),
             ReceiveFault::Limit => f.write_str("limit"),
             ReceiveFault::Ended => f.write_str("ended"),
             ReceiveFault::Memory => f.write_str("memory"),

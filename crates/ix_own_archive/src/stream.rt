@@ -229,8 +229,8 @@ impl<'s> StreamReceiver<'s> {
     }
 
     /// Ends the stream, of which nothing more is checked then. If it succeeds, its bytes are the own
-    /// archive of the job, and no block is missing that may not be. It fails if the stream ends within its
-    /// header or a section, or if the receiver refuses the end.
+    /// archive of the job, each root is sound or inline, and no block is missing that may not be. It fails
+    /// if the stream ends within its header or a section, or if the receiver refuses the end.
     pub fn finish(self) -> Result<Counts, StreamFault>
         ensures going { OnOk result (self.entry.ended ≡ false) }
         ensures whole { IfOk result (IsWholeStream self.entry.asked (taken_of self.entry)) }
