@@ -1,6 +1,7 @@
 mod Digits
 mod Items
 mod Lacking
-mod Ordering
+mod PlacedEntries
+mod Places
 mod Reasoning
 mod Showing

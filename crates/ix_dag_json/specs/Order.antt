@@ -1,10 +1,8 @@
 -- The order of a map's entries in DAG-JSON: by the bytes of their keys. DAG-CBOR has shorter keys first.
 use Rattle.std.specs.Prelude.{◌≡◌, ℕ, List, [], ◌∷◌, IsPermutation}
-use Rattle.std.specs.Global.{Vec}
 use Rattle.std.specs.Ordering.{nat_cmp}
 use Rattle.std.specs.Cmp.Lexicographic.{slice_cmp}
 use Rattle.std.specs.List.Sorted.{IsSortedByKey}
-use Rattle.ix_cbor.specs.declared.node.Node.{Node}
 use Rattle.ix_cbor.specs.Data.{Data, Items, Entries, null, boolean, integer, float, bytes, text, list, map, link, no_items, item, no_entries, entry, items_of, entries_of}
 
 -- the entries rise by the bytes of their keys
@@ -39,8 +37,3 @@ abbrev mutual
 -- the entries are those of a map, each value in order, by the bytes of their keys
 abbrev pub MapOrders : Entries → List (List ℕ × Data) → Type 0
 MapOrders es sorted = (ordered : List (List ℕ × Data)) × EntriesOrder es ordered × IsPermutation ordered sorted × Rise sorted
-
--- the same entries in the program, by the bytes of their keys
-pub record AreSorted (entries sorted : List (Vec ℕ × Node)) : Type 0 where
-  pub same : IsPermutation entries sorted
-  pub rise : IsSortedByKey (λ e. e.0.items) (slice_cmp nat_cmp) sorted

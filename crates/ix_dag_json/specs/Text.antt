@@ -23,6 +23,10 @@ IsShownAs layout d s = (ts : List Token) × Shows d ts × (s ≡ text_as layout 
 abbrev pub IsTextOf : Layout → Data → List ℕ → Type 0
 IsTextOf layout d s = (ordered : Data) × Orders d ordered × IsShownAs layout ordered s
 
+-- the bytes are a block
+abbrev pub IsBlock : List ℕ → Type 0
+IsBlock b = (d : Data) × Spells b d
+
 -- the bytes are a block, and the text is the DAG-JSON of its data
 abbrev pub IsBlockText : Layout → List ℕ → List ℕ → Type 0
 IsBlockText layout b s = (d : Data) × Spells b d × IsTextOf layout d s
@@ -31,16 +35,10 @@ IsBlockText layout b s = (d : Data) × Spells b d × IsTextOf layout d s
 abbrev pub IsItemText : Layout → List ℕ → List ℕ → Type 0
 IsItemText layout b s = (front : List ℕ) × (rest : List ℕ) × (b ≡ front ++ rest) × IsBlockText layout front s
 
--- DAG-JSON can't express a part of the data, the entries of each map by the bytes of their keys; or memory ran out
-abbrev pub IsRefused : Data → DagJsonFault → Type 0
-IsRefused d (Block fault) = ⊥
-IsRefused d (Part lacking) = (ordered : Data) × Orders d ordered × IsPartOf ordered lacking
-IsRefused d Memory = Unit {0}
-
 -- the bytes are no block, and this is their first error; or DAG-JSON can't express a part; or memory ran out
 abbrev pub IsBlockRefused : List ℕ → DagJsonFault → Type 0
 IsBlockRefused b (Block fault) = IsFirstOf b fault × (fault.kind ≢ kinds.Memory)
-IsBlockRefused b (Part lacking) = (d : Data) × Spells b d × IsRefused d (Part lacking)
+IsBlockRefused b (Part lacking) = (d : Data) × Spells b d × IsPartOf d lacking
 IsBlockRefused b Memory = Unit {0}
 
 -- the error is the first one of the item at the front, its place counted from there

@@ -11,7 +11,7 @@ use crate::base58::base58_of;
 use crate::fault::{DagJsonFault, Wrong};
 use crate::output::Output;
 use base64::engine::general_purpose::STANDARD_NO_PAD;
-use ix_cid::Cid;
+use ix_cid::{Cid, CidRef};
 use json::Token;
 use std::alloc::{AllocError, Global};
 use std::num::f64_from_bits_with_nan;
@@ -55,10 +55,10 @@ pub(crate) fn push_bytes(alloc: Global, out: &mut Output, bytes: &[u8]) -> Resul
 }
 
 // Appends a link: `{"/":"CID"}`.
-pub(crate) fn push_link(alloc: Global, out: &mut Output, cid: &Cid) -> Result<(), AllocError>
-    ensures { OnOk result (Appends (ShowsLink cid.now) out.old out.new) }
+pub(crate) fn push_link(alloc: Global, out: &mut Output, cid: CidRef<'_>) -> Result<(), AllocError>
+    ensures { OnOk result (Appends (ShowsLink cid.entry) out.old out.new) }
 {
-    let text = link_text(alloc, cid)?;
+    let text = link_text(alloc, &cid.to_cid(alloc)?)?;
     out.tokens(&[
         Token::BeginObject,
         Token::Key("/"),

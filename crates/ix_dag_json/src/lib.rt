@@ -15,6 +15,7 @@
 mod base58;
 mod fault;
 mod hidden;
+mod item;
 mod leaf;
 mod order;
 mod output;

@@ -1,18 +1,19 @@
 //! The DAG-JSON of a block, of an item, and of bytes.
 
 ghost use Rattle.std.specs.Prelude.{◌≡◌, IfOk, IfErr, string_bytes};
-ghost use Rattle.ix_cbor.specs.Data.{data_of, bytes as bytes_data};
-ghost use Rattle.ix_dag_json.specs.Text.{IsShownAs, IsTextOf, IsBlockText, IsItemText, IsBlockRefused, IsItemRefused, IsRefused};
-ghost use Rattle.ix_dag_json.specs.Lack.{IsLack};
+ghost use Rattle.ix_cbor.specs.Data.{bytes as bytes_data};
+ghost use Rattle.ix_dag_json.specs.Text.{IsBlock, IsTextOf, IsBlockText, IsItemText, IsBlockRefused, IsItemRefused};
 ghost use Rattle.ix_dag_json.specs.Written.{text_in};
 
 use crate::fault::DagJsonFault;
 use crate::leaf::push_bytes;
-use crate::order::in_byte_order;
 use crate::output::{Layout, Output};
-use crate::print::push_node;
-use ix_cbor::{CborKind, Node, Tree, decode, skip_item};
+use crate::print::push_item;
+use ix_cbor::{CborKind, check, skip_item};
 use std::alloc::{AllocError, Global};
+
+// How deep lists and maps may nest.
+const LEVELS: u32 = 512;
 
 /// Returns the DAG-JSON of a block of DAG-CBOR, without a line end. It rejects bytes that are not valid
 /// DAG-CBOR, with their first error, and data with a part that DAG-JSON can't express: text or a key that
@@ -21,8 +22,8 @@ pub fn text_of_block(alloc: Global, block: &[u8], layout: Layout) -> Result<Stri
     ensures text { IfOk result (λ text. IsBlockText layout block.now (string_bytes text)) }
     ensures refused { IfErr result (IsBlockRefused block.now) }
 {
-    match decode(alloc, block) {
-        Ok(tree) => text_of_tree(alloc, &tree, layout),
+    match check(block) {
+        Ok(()) => text_of_checked(alloc, block, layout),
         Err(fault) if fault.kind == CborKind::Memory => Err(DagJsonFault::Memory),
         Err(fault) => Err(DagJsonFault::Block(fault)),
     }
@@ -52,22 +53,14 @@ pub fn text_of_bytes(alloc: Global, bytes: &[u8], layout: Layout) -> Result<Stri
     string_of(out)
 }
 
-// Returns the DAG-JSON of a tree.
-fn text_of_tree(alloc: Global, tree: &Tree, layout: Layout) -> Result<String, DagJsonFault>
-    ensures text { IfOk result (λ text. IsTextOf layout tree.now (string_bytes text)) }
-    ensures refused { IfErr result (IsRefused tree.now) }
-{
-    let node = in_byte_order(alloc, tree.root())?;
-    text_of_node(alloc, &node, layout)
-}
-
-// Returns the DAG-JSON of a node, whose entries are in order.
-fn text_of_node(alloc: Global, node: &Node, layout: Layout) -> Result<String, DagJsonFault>
-    ensures text { IfOk result (λ text. IsShownAs layout (data_of node.now) (string_bytes text)) }
-    ensures refused { IfErr result (IsLack (data_of node.now)) }
+// Returns the DAG-JSON of a block that decodes.
+fn text_of_checked(alloc: Global, block: &[u8], layout: Layout) -> Result<String, DagJsonFault>
+    requires { IsBlock block.now }
+    ensures text { IfOk result (λ text. IsBlockText layout block.now (string_bytes text)) }
+    ensures refused { IfErr result (IsBlockRefused block.now) }
 {
     let mut out = Output::new(alloc, layout);
-    push_node(alloc, &mut out, node)?;
+    push_item(alloc, &mut out, block, LEVELS)?;
     Ok(string_of(out)?)
 }
 
