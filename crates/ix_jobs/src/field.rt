@@ -39,8 +39,9 @@ fn root_in(alloc: Global, text: &str) -> Result<Cid, JobErrorKind>
     }
 }
 
-/// Parses decimal digits without a leading zero as a number from 1 to the greatest limit.
-pub(crate) fn limit_in(text: &str, greatest: u32) -> Result<u32, JobErrorKind>
+/// Parses decimal digits without a leading zero as a number from 1 to the greatest limit. The error is
+/// `Limit`.
+pub fn limit_in(text: &str, greatest: u32) -> Result<u32, JobErrorKind>
     ensures exact { Reads (λ limit. limit) result (limit_in greatest text.now) }
     ensures within { IfOk result (λ limit. (1 ≤ limit) × (limit ≤ greatest)) }
 {
@@ -53,8 +54,8 @@ pub(crate) fn limit_in(text: &str, greatest: u32) -> Result<u32, JobErrorKind>
     }
 }
 
-/// Parses a selector in hex.
-pub(crate) fn selector_in(alloc: Global, text: &str) -> Result<Selector, JobErrorKind>
+/// Parses a selector in hex. The error is `Hex`, `Selector` or `Memory`.
+pub fn selector_in(alloc: Global, text: &str) -> Result<Selector, JobErrorKind>
     ensures { Gives (λ selector. selector) result (selector_in text.now) }
 {
     let tree = tree_in(alloc, bytes_in(alloc, text)?)?;

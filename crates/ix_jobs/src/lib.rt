@@ -30,6 +30,7 @@ mod results;
 
 pub use absent::{Separated, is_root, separate_absent};
 pub use fault::{JobErrorKind, JobsFault};
+pub use field::{limit_in, selector_in};
 pub use jobs::{read_jobs, read_jobs_up_to, split_line, with_links_once};
 pub use missing::{AllowMissing, UnknownCodec};
 pub use part::Part;

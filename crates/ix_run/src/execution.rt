@@ -92,7 +92,8 @@ pub struct RunInput<'a> {
 }
 
 /// Runs the jobs as `run` does, and notifies an observer: first of the bytes of each header, then of each
-/// delivery and its bytes, and of each close.
+/// delivery and its bytes, and of each close. An archive is whole in its writer when its close is notified, but
+/// for what the writer buffers; the writers are flushed after the last close.
 pub fn run_observed<R: Threads + Wait + Sync, W: Write + Drop, V: Observer>(
     rt: &R,
     alloc: Global,
@@ -304,7 +305,10 @@ fn start_archives<'a, W: Write + Drop, V: Observer>(
     let mut archives = Vec::with_capacity(alloc, jobs.len())?;
     for (job, writer) in jobs.iter().zip(writers) {
         match Archive::without(alloc, store, known, job, writer) {
-            Ok(archive) => archives.push(Observed::new(archive, observer))?,
+            Ok(archive) => {
+                let number = archives.len();
+                archives.push(Observed::new(archive, number, observer))?;
+            }
             Err(ArchiveNew::Write(_)) => return Err(RunFault::Write(archives.len() as u32)),
             Err(ArchiveNew::Memory(_)) => return Err(RunFault::Memory),
         }

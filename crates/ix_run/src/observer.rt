@@ -19,8 +19,9 @@ pub trait Observer {
     /// One more visit was delivered.
     fn on_delivery(&self);
 
-    /// One more job's archive was closed.
-    fn on_close(&self);
+    /// One more job's archive was closed: that of the job of this number, from 0 on, with this end and these
+    /// skips.
+    fn on_close(&self, number: usize, end: End, skips: &[Skip]);
 }
 
 /// An observer that ignores everything.
@@ -32,14 +33,15 @@ impl Observer for Unobserved {
 
     fn on_delivery(&self) {}
 
-    fn on_close(&self) {}
+    fn on_close(&self, _number: usize, _end: End, _skips: &[Skip]) {}
 }
 
-/// An archive that notifies an observer. It forwards every call, and contracts see it as the archive
+/// The archive of the job of a number, which notifies an observer. It forwards every call, and contracts see it as the archive
 /// inside: its calls and its guarantee are those.
 #[derive(Drop)]
 pub struct Observed<'a, W: Write, V: Observer> {
     archive: Archive<'a, W>,
+    number: usize,
     observer: &'a V,
 }
 
@@ -52,12 +54,17 @@ impl<'a, W: Write, V: Observer> Model for Observed<'a, W, V> {
 }
 
 impl<'a, W: Write, V: Observer> Observed<'a, W, V> {
-    /// Wraps an archive, and notifies the observer at once of the bytes that it has so far.
-    pub fn new(archive: Archive<'a, W>, observer: &'a V) -> Observed<'a, W, V>
+    /// Wraps the archive of the job of this number, and notifies the observer at once of the bytes that it
+    /// has so far.
+    pub fn new(archive: Archive<'a, W>, number: usize, observer: &'a V) -> Observed<'a, W, V>
         ensures { result ≡ archive.entry }
     {
         observer.on_bytes(archive.counts().bytes);
-        Observed { archive, observer }
+        Observed {
+            archive,
+            number,
+            observer,
+        }
     }
 
     /// Returns the writer, the skips and the counts of the archive.
@@ -94,6 +101,7 @@ impl<'a, W: Write, V: Observer> Sink for Observed<'a, W, V> {
 
     fn close(&mut self, end: End) {
         self.archive.close(end);
-        self.observer.on_close();
+        self.observer
+            .on_close(self.number, end, self.archive.skips());
     }
 }
