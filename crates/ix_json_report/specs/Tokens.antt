@@ -1,6 +1,5 @@
 -- The tokens of the report's objects, part by part as they are written.
-use Rattle.std.specs.Prelude.{ℕ, ◌+◌, Option, None, Some, List, [], ◌∷◌, ◌++◌, length, codes, String}
-use Rattle.std.specs.Global.{Global}
+use Rattle.std.specs.Prelude.{ℕ, ◌+◌, Option, None, Some, option_map, List, [], ◌∷◌, ◌++◌, length, codes, string_bytes}
 use Rattle.json.specs.Token.{Token, begin_object, end_object, begin_array, end_array, key}
 use Rattle.ix_cid.specs.CidText.{text_of}
 use Rattle.ix_walk.specs.JobMeaning.{JobMeaning}
@@ -12,7 +11,8 @@ use Rattle.ix_archive.specs.declared.archive.Counts.{Counts}
 use Rattle.ix_jobs.specs.declared.results.JobResult.{JobResult}
 use Rattle.ix_jobs.specs.Report.{done_count, skip_count}
 use Rattle.ix_json_report.specs.Members.{text_member, number_member}
-use Rattle.ix_json_report.specs.Objects.{path_at}
+use Rattle.ix_json_report.specs.Objects.{Detail, detail_at}
+use Rattle.ix_json_report.specs.declared.error.ErrorNote.{ErrorNote}
 use Rattle.ix_json_report.specs.declared.skips.SkipNotes.{SkipNotes}
 use Rattle.ix_json_report.specs.declared.place.ArchivePlace.{ArchivePlace}
 use Rattle.ix_json_report.specs.declared.place.ArchivePlace.TheVariants.{File, Part, Unknown}
@@ -39,10 +39,14 @@ abbrev pub absent_tokens : Option ℕ → List Token
 absent_tokens None = []
 absent_tokens (Some absent) = number_member (codes "absent") absent
 
--- the path of the archive, or of its `.part` file
+-- the path and the size of a `.part` file
+abbrev pub part_tokens : List ℕ → ℕ → List Token
+part_tokens path size = text_member (codes "part") path ++ number_member (codes "part_bytes") size
+
+-- the path of the archive, or of its `.part` file, and the size of that
 abbrev pub place_tokens : ArchivePlace → List Token
 place_tokens (File path) = text_member (codes "file") path.now
-place_tokens (Part path) = text_member (codes "part") path.now
+place_tokens (Part path size) = part_tokens path.now size
 place_tokens Unknown = []
 
 -- the verdict and the text of the CID
@@ -58,23 +62,43 @@ abbrev pub path_tokens : Option (List ℕ) → List Token
 path_tokens None = []
 path_tokens (Some path) = text_member (codes "path") path
 
-abbrev pub skip_tokens : Skip → Option (List ℕ) → List Token
-skip_tokens s path = begin_object ∷ (skip_members s ++ path_tokens path ++ end_object ∷ [])
+-- why the bytes are malformed, and the offset in them, if that is known
+abbrev pub cause_tokens : Option (List ℕ × ℕ) → List Token
+cause_tokens None = []
+cause_tokens (Some cause) = text_member (codes "cause") cause.0 ++ number_member (codes "offset") cause.1
+
+abbrev pub skip_tokens : Skip → Detail → List Token
+skip_tokens s detail = begin_object ∷ (skip_members s ++ path_tokens detail.0 ++ cause_tokens detail.1 ++ end_object ∷ [])
 
 -- those of skips, the first of which has this number
-abbrev pub all_skips_tokens : List (Option (String Global)) → ℕ → List Skip → List Token
-all_skips_tokens paths n [] = []
-all_skips_tokens paths n (s ∷ skips) = skip_tokens s (path_at paths n) ++ all_skips_tokens paths (n + 1) skips
+abbrev pub all_skips_tokens : SkipNotes → ℕ → List Skip → List Token
+all_skips_tokens notes n [] = []
+all_skips_tokens notes n (s ∷ skips) = skip_tokens s (detail_at notes n) ++ all_skips_tokens notes (n + 1) skips
 
 -- the skips in order
-abbrev pub skips_tokens : List (Option (String Global)) → List Skip → List Token
-skips_tokens paths skips = key (codes "skips") ∷ begin_array ∷ (all_skips_tokens paths 0 skips ++ end_array ∷ [])
+abbrev pub skips_tokens : SkipNotes → List Skip → List Token
+skips_tokens notes skips = key (codes "skips") ∷ begin_array ∷ (all_skips_tokens notes 0 skips ++ end_array ∷ [])
 
 -- the object of a job
 abbrev pub job_tokens : JobMeaning → JobResult → SkipNotes → ArchivePlace → List Token
 job_tokens job r notes place =
     begin_object
-    ∷ (end_tokens job r.end ++ counts_tokens r.counts ++ known_tokens r.counts.known ++ absent_tokens notes.absent ++ place_tokens place ++ skips_tokens notes.paths.now r.skips.items ++ end_object ∷ [])
+    ∷ (end_tokens job r.end ++ counts_tokens r.counts ++ known_tokens r.counts.known ++ absent_tokens notes.absent ++ place_tokens place ++ skips_tokens notes r.skips.items ++ end_object ∷ [])
+
+-- a member with a text, where there is one
+abbrev pub optional_tokens : List ℕ → Option (List ℕ) → List Token
+optional_tokens name None = []
+optional_tokens name (Some text) = text_member name text
+
+-- what an error is in a word, and its line
+abbrev pub message_tokens : ErrorNote → List Token
+message_tokens e = text_member (codes "error") e.code.now ++ text_member (codes "message") e.message.now
+
+-- the object of an error
+abbrev pub error_tokens : ErrorNote → List Token
+error_tokens e =
+    begin_object
+    ∷ (message_tokens e ++ optional_tokens (codes "cid") (option_map string_bytes e.cid.now) ++ optional_tokens (codes "path") (option_map string_bytes e.path.now) ++ end_object ∷ [])
 
 -- how many jobs, how many of them are done, how many skips
 abbrev pub totals_tokens : List JobResult → List Token

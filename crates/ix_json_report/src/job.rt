@@ -17,7 +17,7 @@ use std::alloc::{AllocError, Global};
 
 /// Appends the line of a job: an object with its name, its end and its counts as in the text report,
 /// how many skips were absent, if they were counted, where its archive is, and its skips in their order,
-/// each with its path, if that is known.
+/// each with its path and why its bytes are malformed, if that is known.
 pub fn push_job(
     alloc: Global,
     text: Vec<u8>,
@@ -51,7 +51,7 @@ fn push_object(
     push_known(out, outcome.counts.known)?;
     push_absent(out, notes.absent)?;
     push_place(out, place)?;
-    push_skips(alloc, out, outcome.skips.as_slice(), notes.paths)?;
+    push_skips(alloc, out, outcome.skips.as_slice(), notes)?;
     out.end_object()
 }
 

@@ -2,8 +2,8 @@
 
 ghost use Rattle.std.specs.Prelude.{◌≡◌, option_map};
 ghost use Rattle.ix_json_report.specs.Members.{Appends};
-ghost use Rattle.ix_json_report.specs.Tokens.{reason_tokens, skip_members, path_tokens, skip_tokens, skips_tokens, all_skips_tokens};
-ghost use Rattle.ix_json_report.specs.Objects.{path_at};
+ghost use Rattle.ix_json_report.specs.Tokens.{reason_tokens, skip_members, path_tokens, cause_tokens, skip_tokens, skips_tokens, all_skips_tokens};
+ghost use Rattle.ix_json_report.specs.Objects.{path_at, cause_view, cause_at};
 
 use crate::members::{push_cid, push_number, push_text, push_verdict};
 use ix_archive::Skip;
@@ -17,6 +17,17 @@ pub struct SkipNotes<'a> {
     pub absent: Option<usize>,
     /// The paths of the skips in the report, in their order, as far as they are known.
     pub paths: &'a [Option<String>],
+    /// Why the bytes of each skip are malformed, in their order, as far as that is asked for.
+    pub causes: &'a [Option<SkipCause<'a>>],
+}
+
+/// Why bytes are malformed.
+#[derive(Clone, Copy)]
+pub struct SkipCause<'a> {
+    /// What is wrong with them, in some words.
+    pub words: &'a str,
+    /// The offset of their first error.
+    pub offset: u64,
 }
 
 // Appends the member with the skips of a job.
@@ -24,13 +35,13 @@ pub(crate) fn push_skips(
     alloc: Global,
     out: &mut Writer,
     skips: &[Skip],
-    paths: &[Option<String>],
+    notes: SkipNotes<'_>,
 ) -> Result<(), AllocError>
-    ensures { Appends out.old out.new (skips_tokens paths.now skips.now) result }
+    ensures { Appends out.old out.new (skips_tokens notes.entry skips.now) result }
 {
     out.key("skips")?;
     out.begin_array()?;
-    push_each_skip(alloc, out, skips, paths)?;
+    push_each_skip(alloc, out, skips, notes)?;
     out.end_array()
 }
 
@@ -39,12 +50,13 @@ fn push_each_skip(
     alloc: Global,
     out: &mut Writer,
     skips: &[Skip],
-    paths: &[Option<String>],
+    notes: SkipNotes<'_>,
 ) -> Result<(), AllocError>
-    ensures { Appends out.old out.new (all_skips_tokens paths.now 0 skips.now) result }
+    ensures { Appends out.old out.new (all_skips_tokens notes.entry 0 skips.now) result }
 {
     for (number, skip) in skips.iter().enumerate() {
-        push_skip(alloc, out, skip, path_at(paths, number))?;
+        let path = path_at(notes.paths, number);
+        push_skip(alloc, out, skip, path, cause_at(notes.causes, number))?;
     }
     Ok(())
 }
@@ -57,18 +69,31 @@ fn path_at(paths: &[Option<String>], number: usize) -> Option<&str>
     Some(path.as_str())
 }
 
+// Returns why the bytes of the skip of this number are malformed, if that is known.
+fn cause_at<'a>(causes: &[Option<SkipCause<'a>>], number: usize) -> Option<SkipCause<'a>>
+    ensures { option_map cause_view result ≡ cause_at causes.now number }
+{
+    match causes.get(number) {
+        Some(cause) => *cause,
+        None => None,
+    }
+}
+
 // Appends the object of a skip.
 fn push_skip(
     alloc: Global,
     out: &mut Writer,
     skip: &Skip,
     path: Option<&str>,
+    cause: Option<SkipCause<'_>>,
 ) -> Result<(), AllocError>
-    ensures { Appends out.old out.new (skip_tokens skip.now (option_map (λ p. p.now) path.entry)) result }
+    ensures { Appends out.old out.new
+        (skip_tokens skip.now (option_map (λ p. p.now) path.entry, option_map cause_view cause.entry)) result }
 {
     out.begin_object()?;
     push_members(alloc, out, skip)?;
     push_path(out, path)?;
+    push_cause(out, cause)?;
     out.end_object()
 }
 
@@ -94,6 +119,19 @@ fn push_path(out: &mut Writer, path: Option<&str>) -> Result<(), AllocError>
 {
     match path {
         Some(path) => push_text(out, "path", path),
+        None => Ok(()),
+    }
+}
+
+// Appends why the bytes are malformed, and the offset in them, if that is known.
+fn push_cause(out: &mut Writer, cause: Option<SkipCause<'_>>) -> Result<(), AllocError>
+    ensures { Appends out.old out.new (cause_tokens (option_map cause_view cause.entry)) result }
+{
+    match cause {
+        Some(cause) => {
+            push_text(out, "cause", cause.words)?;
+            push_number(out, "offset", cause.offset)
+        }
         None => Ok(()),
     }
 }
