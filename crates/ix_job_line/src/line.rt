@@ -9,7 +9,7 @@ use crate::selector::{SelectorWord, selector_hex};
 use ix_jobs::{JobErrorKind, read_jobs_up_to};
 use ix_selector_json::NotationFault;
 use ix_walk::{GREATEST_LIMIT, Job, is_name};
-use std::alloc::{AllocError, Global};
+use std::alloc::{AllocError, AllocFailed, Global};
 
 /// Why fields aren't those of a job.
 #[derive(Debug, Drop)]
@@ -118,5 +118,17 @@ impl From<AllocError> for LineFault {
 
     fn from(_error: AllocError) -> LineFault {
         LineFault::Field(JobErrorKind::Memory)
+    }
+}
+
+impl<T: Drop> From<AllocFailed<T>> for LineFault {
+    ghost use Rattle.std.specs.Prelude.{◌≡◌};
+    ghost use Rattle.ix_jobs.specs.declared.fault.JobErrorKind.TheVariants.{Memory};
+    ghost use Rattle.ix_job_line.specs.declared.line.LineFault.TheVariants.{Field};
+
+    ghost from_gives = { λ _ fault. fault ≡ Field Memory };
+
+    fn from(_error: AllocFailed<T>) -> LineFault {
+        LineFault::from(AllocError)
     }
 }
