@@ -5,7 +5,9 @@ use Rattle.ix_walk.specs.JobMeaning.{JobMeaning}
 use Rattle.ix_jobs.specs.declared.fault.JobErrorKind.{JobErrorKind}
 use Rattle.ix_jobs.specs.declared.fault.JobErrorKind.TheVariants.{Repeated}
 use Rattle.ix_jobs.specs.declared.fault.JobsFault.{JobsFault}
+use Rattle.ix_jobs.specs.declared.part.Part.{Part}
 use Rattle.ix_jobs.specs.Jobs.{jobs_up_to, is_taken}
+use Rattle.ix_jobs.specs.Parts.{part_jobs_up_to}
 
 -- why a line is faulty after lines with these jobs: for what a file of this line alone has, or for its name
 abbrev pub fault_after : List JobMeaning → Result (List JobMeaning) (JobErrorKind × ℕ) → Option JobErrorKind
@@ -38,10 +40,18 @@ later first faults = filter (λ f. nat_lt first f.line) faults
 abbrev pub faults_after : ℕ → ℕ → List ℕ → List JobsFault
 faults_after greatest first b = later first (faults_from greatest 1 [] (slice_split (λ b. b == 10) b))
 
--- none where the file has jobs; else the one for which it is rejected, and those of the lines after
+-- none where there are jobs; else the one for which the file is rejected, and those of the lines after
+abbrev pub AreFaultsFor : Result (List JobMeaning) (JobErrorKind × ℕ) → ℕ → List ℕ → List JobsFault → Type 0
+AreFaultsFor jobs greatest b [] = (some : List JobMeaning) × (jobs ≡ Ok some)
+AreFaultsFor jobs greatest b (f ∷ fs) = (jobs ≡ Err (f.kind, f.line)) × (fs ≡ faults_after greatest f.line b)
+
+-- those of a job file, with limits up to the greatest
 abbrev pub AreFaultsUpTo : ℕ → List ℕ → List JobsFault → Type 0
-AreFaultsUpTo greatest b [] = (jobs : List JobMeaning) × (jobs_up_to greatest 1000 b ≡ Ok jobs)
-AreFaultsUpTo greatest b (f ∷ fs) = (jobs_up_to greatest 1000 b ≡ Err (f.kind, f.line)) × (fs ≡ faults_after greatest f.line b)
+AreFaultsUpTo greatest b = AreFaultsFor (jobs_up_to greatest 1000 b) greatest b
+
+-- those of a part of a job file
+abbrev pub AreFaultsOfPart : ℕ → Part → List ℕ → List JobsFault → Type 0
+AreFaultsOfPart greatest part b = AreFaultsFor (part_jobs_up_to greatest part.number part.of b) greatest b
 
 -- the same with limits up to 1000000
 abbrev pub AreFaultsOf : List ℕ → List JobsFault → Type 0

@@ -1,10 +1,11 @@
 //! All faulty lines of a job file.
 
-ghost use Rattle.std.specs.Prelude.{◌≡◌, ◌++◌, IfOk, OnOk};
-ghost use Rattle.ix_job_errors.specs.Faults.{later, told, faults_after, AreFaultsOf, AreFaultsUpTo};
+ghost use Rattle.std.specs.Prelude.{◌≡◌, ◌≢◌, ◌∷◌, ◌++◌, IfOk, OnOk};
+ghost use Rattle.ix_jobs.specs.declared.fault.JobErrorKind.TheVariants.{Memory};
+ghost use Rattle.ix_job_errors.specs.Faults.{later, told, faults_after, AreFaultsOf, AreFaultsOfPart, AreFaultsUpTo};
 ghost use Rattle.ix_job_errors.specs.Steps.{AnswersAfter};
 
-use ix_jobs::{JobErrorKind, JobsFault, read_jobs_up_to, split_line};
+use ix_jobs::{JobErrorKind, JobsFault, Part, read_jobs_part_up_to, read_jobs_up_to, split_line};
 use ix_walk::GREATEST_LIMIT;
 use std::alloc::{AllocError, Global};
 use std::collections::BTreeSet;
@@ -26,14 +27,43 @@ pub fn job_faults_up_to(
 ) -> Result<Vec<JobsFault>, AllocError>
     ensures { IfOk result (λ faults. AreFaultsUpTo greatest bytes.now faults.items) }
 {
-    let mut faults = Vec::new(alloc);
-    if let Err(first) = read_jobs_up_to(alloc, bytes, greatest) {
-        if let JobErrorKind::Memory = first.kind {
-            return Err(AllocError);
-        }
-        faults.push(first)?;
-        push_later(alloc, &mut faults, bytes, first.line, greatest)?;
+    match read_jobs_up_to(alloc, bytes, greatest) {
+        Ok(_) => Ok(Vec::new(alloc)),
+        Err(first) => with_later(alloc, bytes, first, greatest),
     }
+}
+
+/// The same for a part of a job file, whose lines are all checked.
+pub fn job_faults_of_part(
+    alloc: Global,
+    bytes: &[u8],
+    part: Part,
+    greatest: u32,
+) -> Result<Vec<JobsFault>, AllocError>
+    ensures { IfOk result (λ faults. AreFaultsOfPart greatest part bytes.now faults.items) }
+{
+    match read_jobs_part_up_to(alloc, bytes, part, greatest) {
+        Ok(_) => Ok(Vec::new(alloc)),
+        Err(first) => with_later(alloc, bytes, first, greatest),
+    }
+}
+
+// Returns the first fault and those of the lines after it, unless it is that memory ran out.
+fn with_later(
+    alloc: Global,
+    bytes: &[u8],
+    first: JobsFault,
+    greatest: u32,
+) -> Result<Vec<JobsFault>, AllocError>
+    ensures faults { IfOk result (λ faults. faults.items ≡ first ∷ faults_after greatest first.line bytes.now) }
+    ensures kind { IfOk result (λ _. first.kind ≢ Memory) }
+{
+    if let JobErrorKind::Memory = first.kind {
+        return Err(AllocError);
+    }
+    let mut faults = Vec::new(alloc);
+    faults.push(first)?;
+    push_later(alloc, &mut faults, bytes, first.line, greatest)?;
     Ok(faults)
 }
 

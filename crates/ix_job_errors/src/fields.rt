@@ -4,6 +4,7 @@ use crate::words::{limit_fault, name_fault, roots_fault, selector_fault};
 use ix_job_line::{JobWords, LineFault, SelectorWord};
 use ix_jobs::JobErrorKind;
 use ix_selector_json::fault_line;
+use ix_walk::MOST_ROOTS;
 use std::alloc::{AllocError, Global};
 
 /// Returns why fields aren't those of a job: `--limit: what is wrong, and what would be right`, since
@@ -22,8 +23,12 @@ pub fn job_fault_words(
                 None => format!(in alloc; "{field}: no selector"),
             }
         }
+        (LineFault::Field(JobErrorKind::Root), _) => {
+            let (field, count) = (OPTION_FIELDS.roots, words.roots.len());
+            format!(in alloc; "{field}: {count} CIDs, expected 1 to {MOST_ROOTS}")
+        }
         _ => {
-            let typed = [words.name, words.roots, words.limit];
+            let typed = [words.name, "", words.limit];
             fault_words(alloc, fault, &OPTION_FIELDS, typed, words.greatest_limit)
         }
     }

@@ -18,6 +18,6 @@ mod lines;
 mod words;
 
 pub use edges::lacks_an_edge;
-pub use faults::{job_faults, job_faults_up_to};
+pub use faults::{job_faults, job_faults_of_part, job_faults_up_to};
 pub use fields::{job_fault_words, line_fault_words};
 pub use lines::fault_lines;

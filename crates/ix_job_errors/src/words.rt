@@ -1,6 +1,7 @@
 //! Says what is wrong with a field of a job's line, and what would be right.
 
 use ix_cid::{Cid, CidFault};
+use ix_cid_text::{CidTextFault, locate, parse};
 use ix_selector_json::{NotationFault, hex_fault_line, json_of_hex};
 use ix_walk::{LONGEST_NAME, MOST_ROOTS, is_name};
 use std::alloc::{AllocError, Global};
@@ -51,17 +52,27 @@ fn root_words(
         return Err(AllocError);
     }
     let words = match form_words(root) {
-        Some(words) => words,
-        None if fault == CidFault::Base32 => base32_words(alloc, root)?,
-        None => cid_words(fault),
+        Some(words) => with_base32(alloc, root, words)?,
+        None if fault == CidFault::Base32 => String::from_str(alloc, base32_words(alloc, root)?)?,
+        None => String::from_str(alloc, cid_words(fault))?,
     };
     if root.is_empty() {
         let words = "no text beside a comma, expected comma-separated CIDs";
         String::from_str(alloc, words)
     } else if count == 1 {
-        String::from_str(alloc, words)
+        Ok(words)
     } else {
         format!(in alloc; "{root} is {words}")
+    }
+}
+
+// Appends the base32 of a root in another form, if it is a CIDv1.
+fn with_base32(alloc: Global, root: &str, words: &str) -> Result<String, AllocError> {
+    match parse(alloc, locate(root).cid) {
+        Ok(cid) if cid.version() == 1 => format!(in alloc; "{words}: {}", cid.text(alloc)?),
+        Ok(_) => String::from_str(alloc, words),
+        Err(CidTextFault::Memory) => Err(AllocError),
+        Err(_) => String::from_str(alloc, words),
     }
 }
 
@@ -91,19 +102,11 @@ fn form_words(root: &str) -> Option<&'static str> {
 // base32 in lower case.
 fn base_words(first: u8) -> Option<&'static str> {
     match first {
-        b'z' | b'Z' => Some(
-            "base58, expected base32 beginning with b: ipfs cid base32 converts it",
-        ),
-        b'f' | b'F' => Some("hex, expected base32 beginning with b: ipfs cid base32 converts it"),
-        b'k' | b'K' => Some(
-            "base36, expected base32 beginning with b: ipfs cid base32 converts it",
-        ),
-        b'm' | b'M' | b'u' | b'U' => Some(
-            "base64, expected base32 beginning with b: ipfs cid base32 converts it",
-        ),
-        b'v' | b'V' | b't' | b'T' => Some(
-            "base32hex, expected base32 beginning with b: ipfs cid base32 converts it",
-        ),
+        b'z' | b'Z' => Some("base58, expected base32 beginning with b"),
+        b'f' | b'F' => Some("hex, expected base32 beginning with b"),
+        b'k' | b'K' => Some("base36, expected base32 beginning with b"),
+        b'm' | b'M' | b'u' | b'U' => Some("base64, expected base32 beginning with b"),
+        b'v' | b'V' | b't' | b'T' => Some("base32hex, expected base32 beginning with b"),
         b'B' | b'C' => Some("base32 in upper case, expected lower case, beginning with b"),
         _ => None,
     }
