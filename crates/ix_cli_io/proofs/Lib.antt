@@ -1,3 +1,4 @@
 mod Failures
 mod Inputs
 mod Paths
+mod Rules

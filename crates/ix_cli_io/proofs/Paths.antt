@@ -2,10 +2,11 @@
 use Rattle.std.proofs.Common.{◌≡◌, ◌∙◌, ap, ℕ, List, ◌∷◌, All, map, subst, sym, inl, inr, arith}
 use Rattle.std.proofs.lemmas.List.{length-map, get_or-map}
 use Rattle.std.proofs.lemmas.List.Elements.{All-head, All-tail, All-weaker, All-contains_itself}
-use Rattle.std.specs.Prelude.{Result, Ok, Err, Option, String, Contains}
+use Rattle.std.specs.Prelude.{Result, Ok, Err, String, Contains}
 use Rattle.std.specs.Global.{Global}
 use Rattle.ix_cli_io.specs.declared.fault.Failure.{Failure}
 use Rattle.ix_cli_io.specs.declared.output.Output.{Output}
+use Rattle.ix_cli_io.specs.declared.output.Published.{Published}
 use Rattle.ix_cli_io.specs.Failure.{IsPathFailure, IsOutputFailure, RefusesPath, RefusesOutputs}
 use Rattle.ix_cli_io.specs.Naming.{Joins}
 use Rattle.ix_cli_io.specs.Output.{path_of}
@@ -31,7 +32,7 @@ module _ (paths : List (List ℕ)) (path : List ℕ) where
   failure_of_one failure among names = inr (record { path = path; among = among; names = names })
 
   -- the earlier failure, or else that of this output, or memory that ran out
-  pub joined_refuses : (notes : Result (String Global) Failure) (note : Result (Option (String Global)) Failure) (both : Result (String Global) Failure) → Joins notes note both → Contains paths path → RefusesOutputs paths notes → RefusesPath path note → RefusesOutputs paths both
+  pub joined_refuses : (notes : Result (String Global) Failure) (note : Result Published Failure) (both : Result (String Global) Failure) → Joins notes note both → Contains paths path → RefusesOutputs paths notes → RefusesPath path note → RefusesOutputs paths both
   joined_refuses (Err failure) note both is among before now = subst (RefusesOutputs paths) (sym is) before
   joined_refuses (Ok _) (Err failure) both is among before now = subst (RefusesOutputs paths) (sym is) (failure_of_one failure among now)
   joined_refuses (Ok _) (Ok _) (Ok _) is among before now = tt

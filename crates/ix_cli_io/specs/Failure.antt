@@ -13,7 +13,7 @@ use Rattle.ix_run.specs.FaultLine as run_lines
 use Rattle.ix_have_list.specs.FaultLine as list_lines
 use Rattle.ix_selector_json.specs.FaultWords as selector_lines
 use Rattle.ix_cli_io.specs.declared.fault.Failure.{Failure}
-use Rattle.ix_cli_io.specs.declared.fault.Failure.TheVariants.{Usage, Words, Fault, Explained, InFile, Known, Selector, CannotRead, TooLarge, CannotWrite}
+use Rattle.ix_cli_io.specs.declared.fault.Failure.TheVariants.{Usage, Words, Fault, Explained, InFile, Known, Selector, CannotRead, TooLarge, CannotWrite, OutOfMemory, Stopped}
 use Rattle.ix_run.specs.declared.fault.RunFault.TheVariants.{Memory}
 
 -- an error on a file that says that memory ran out
@@ -114,13 +114,20 @@ abbrev pub IsLineOf : Failure → List ℕ → Type 0
 IsLineOf (Usage error) line = Unit {0}
 IsLineOf (Words argument) line = line ≡ codes "error: an argument is not UTF-8: " ++ string_bytes argument
 IsLineOf (Fault fault) line = line ≡ run_lines.line_of fault
-IsLineOf (Explained fault cause) line = line ≡ run_lines.line_of fault
+IsLineOf (Explained fault name cause) line = line ≡ run_lines.line_of fault
 IsLineOf (InFile fault name cause) line = line ≡ run_lines.line_of fault ++ (codes " in " ++ string_bytes name)
 IsLineOf (Known fault) line = line ≡ list_lines.line_of fault
 IsLineOf (Selector fault) line = line ≡ selector_lines.line_of fault
 IsLineOf (CannotRead name cause) line = line ≡ codes "cannot read " ++ string_bytes name
 IsLineOf (TooLarge name cause) line = line ≡ codes "too large " ++ string_bytes name
 IsLineOf (CannotWrite name cause) line = line ≡ codes "cannot write " ++ string_bytes name
+IsLineOf (OutOfMemory cause) line = line ≡ codes "memory"
+IsLineOf (Stopped stop) line = line ≡ string_bytes stop.line
+
+-- the exit status: 2, or that of what stopped the command
+abbrev pub status_of : Failure → ℕ
+status_of (Stopped stop) = stop.status
+status_of failure = 2
 
 -- this text is neither a help nor a version: it is an error
 abbrev pub IsMistake : Error → Type 0

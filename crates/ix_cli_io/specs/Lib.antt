@@ -1,4 +1,5 @@
 pub mod Failure
 pub mod Naming
 pub mod Output
+pub mod Stop
 pub mod Progress

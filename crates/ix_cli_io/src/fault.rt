@@ -2,14 +2,18 @@
 
 ghost use Rattle.std.specs.Prelude.{◌≡◌, IsNone, IfOk, IfSome, string_bytes};
 ghost use Rattle.ix_cli_io.specs.declared.fault.Failure.TheVariants.{CannotRead, TooLarge, CannotWrite};
-ghost use Rattle.ix_cli_io.specs.Failure.{IsWordsOf, IsTooLarge, NamesFile, WantsMemory, IsLineOf};
+ghost use Rattle.ix_cli_io.specs.Failure.{IsWordsOf, IsTooLarge, NamesFile, WantsMemory, IsLineOf, status_of};
 
+use crate::memory::available_memory;
+use crate::stop::{ErrorCode, Stop};
 use clap::error::ErrorKind as UsageKind;
+use ix_car::{CarFault, CarKind};
 use ix_have_list::{ListErrorKind, ListFault};
 use ix_run::{RunFault, fault_line};
 use ix_selector_json::NotationFault;
 use std::alloc::{AllocError, AllocFailed, Global};
 use std::io::{self, ErrorKind};
+use std::rt::Files;
 
 /// The status of a usage error, of an input that is rejected, and of an output that can't be created.
 pub const REFUSED: u8 = 2;
@@ -31,8 +35,8 @@ pub enum Failure {
     Words(String),
     /// An error of the library, or memory that ran out.
     Fault(RunFault),
-    /// An error of the library, and what is known of its cause.
-    Explained(RunFault, String),
+    /// An error in the only block file: the error, the file's path, and what is known of the cause.
+    Explained(RunFault, String, String),
     /// An error in one of several block files: the error, the file's path, and what is known of the cause.
     InFile(RunFault, String, String),
     /// A have-list that is rejected.
@@ -45,6 +49,10 @@ pub enum Failure {
     TooLarge(String, String),
     /// An output can't be created or written: its path, `-` for standard output, and the cause.
     CannotWrite(String, io::Error),
+    /// Memory ran out: at what, how much is available, and what helps.
+    OutOfMemory(String),
+    /// The command gives no answer, though its inputs were read.
+    Stopped(Stop),
 }
 
 /// How the cause of a failure is reported, if it is known.
@@ -99,9 +107,71 @@ impl Failure {
         }
     }
 
-    /// Prints the failure to the user, with the cause as it is asked for, and returns the status, 2.
+    /// Returns the failure for what is rejected for this reason, with this line.
+    pub fn stopped(code: ErrorCode, line: Result<String, AllocError>) -> Failure {
+        match line {
+            Ok(line) => Failure::Stopped(Stop::new(code, line)),
+            Err(error) => Failure::from(error),
+        }
+    }
+
+    /// Says of a failure, if it is that memory ran out, at what it did, how much is available, and what helps.
+    pub fn at<R: AllocGlobal + Files>(self, rt: &R, stage: &str) -> Failure {
+        if !matches!(&self, Failure::Fault(RunFault::Memory)) {
+            return self;
+        }
+        let cause = match available_memory(rt) {
+            Some(free) => format!(in rt.alloc();
+                "there was none left for {stage}; {free} bytes are available now: free some, raise `ulimit -v`, or use a machine with more"
+            ),
+            None => format!(in rt.alloc();
+                "there was none left for {stage}: free some, raise `ulimit -v`, or use a machine with more"
+            ),
+        };
+        match cause {
+            Ok(cause) => Failure::OutOfMemory(cause),
+            Err(error) => Failure::from(error),
+        }
+    }
+
+    /// Returns what the failure is in a word, unless the arguments were rejected by their parser.
+    pub fn code(&self) -> Option<ErrorCode> {
+        match self {
+            Failure::Usage(_) | Failure::Words(_) => None,
+            Failure::Fault(fault)
+            | Failure::Explained(fault, _, _)
+            | Failure::InFile(fault, _, _) => { Some(code_of(fault)) }
+            Failure::Known(fault) => Some(match fault.kind {
+                ListErrorKind::Memory => ErrorCode::Memory,
+                _ => ErrorCode::HaveList,
+            }),
+            Failure::Selector(_) => Some(ErrorCode::Job),
+            Failure::CannotRead(_, _) => Some(ErrorCode::Read),
+            Failure::TooLarge(_, _) => Some(ErrorCode::TooLarge),
+            Failure::CannotWrite(_, _) => Some(ErrorCode::Write),
+            Failure::OutOfMemory(_) => Some(ErrorCode::Memory),
+            Failure::Stopped(stop) => Some(stop.code),
+        }
+    }
+
+    /// Returns the line of the failure with its cause.
+    pub fn message(&self, alloc: Global) -> Result<String, AllocError> {
+        self.text(alloc, Causes::Beside)
+    }
+
+    /// Returns the exit status: 2, or that of what stopped the command.
+    pub fn status(&self) -> u8
+        ensures { result ≡ status_of self.now }
+    {
+        match self {
+            Failure::Stopped(stop) => stop.status,
+            _ => REFUSED,
+        }
+    }
+
+    /// Prints the failure to the user, with the cause as it is asked for, and returns the status.
     pub fn report<R: AllocGlobal + Eprint + Print>(&self, rt: &R, causes: Causes) -> u8
-        ensures { result ≡ 2 }
+        ensures { result ≡ status_of self.now }
     {
         // If standard error can't be written, there is no one to report to.
         let _ = match self {
@@ -111,7 +181,7 @@ impl Failure {
                 Err(_) => rt.eprintln("memory"),
             },
         };
-        REFUSED
+        self.status()
     }
 
     // Returns the line of a failure, and its cause as it is asked for.
@@ -120,10 +190,17 @@ impl Failure {
         if causes == Causes::Hidden {
             return Ok(line);
         }
-        match self.cause(alloc)? {
-            None => Ok(line),
-            Some(cause) if causes == Causes::Below => format!(in alloc; "{line}\n{cause}"),
-            Some(cause) => format!(in alloc; "{line}: {cause}"),
+        match (self, self.cause(alloc)?) {
+            (_, None) => Ok(line),
+            (Failure::Explained(fault, path, _) | Failure::InFile(fault, path, _), Some(cause)) => {
+                if causes == Causes::Below {
+                    format!(in alloc; "{line}\n{path}: {cause}")
+                } else {
+                    line_of_file(alloc, fault, path.as_str(), cause.as_str())
+                }
+            }
+            (_, Some(cause)) if causes == Causes::Below => format!(in alloc; "{line}\n{cause}"),
+            (_, Some(cause)) => format!(in alloc; "{line}: {cause}"),
         }
     }
 
@@ -137,7 +214,7 @@ impl Failure {
             Failure::Words(argument) => {
                 format!(in alloc; "error: an argument is not UTF-8: {argument}")
             }
-            Failure::Fault(fault) | Failure::Explained(fault, _) => fault_line(alloc, fault),
+            Failure::Fault(fault) | Failure::Explained(fault, _, _) => fault_line(alloc, fault),
             Failure::InFile(fault, path, _) => {
                 let line = fault_line(alloc, fault)?;
                 format!(in alloc; "{line} in {path}")
@@ -147,6 +224,8 @@ impl Failure {
             Failure::CannotRead(path, _) => format!(in alloc; "cannot read {path}"),
             Failure::TooLarge(path, _) => format!(in alloc; "too large {path}"),
             Failure::CannotWrite(path, _) => format!(in alloc; "cannot write {path}"),
+            Failure::OutOfMemory(_) => String::from_str(alloc, "memory"),
+            Failure::Stopped(stop) => stop.line.clone(),
         }
     }
 
@@ -158,11 +237,49 @@ impl Failure {
                 Ok(Some(cause_of(alloc, error, "; its directory must exist")?))
             }
             Failure::TooLarge(_, cause)
-            | Failure::Explained(_, cause)
+            | Failure::OutOfMemory(cause)
+            | Failure::Explained(_, _, cause)
             | Failure::InFile(_, _, cause) => Ok(Some(cause.clone()?)),
             Failure::Fault(fault) => cause_of_fault(alloc, fault),
             Failure::Known(fault) => cause_of_list(alloc, fault),
-            Failure::Usage(_) | Failure::Words(_) | Failure::Selector(_) => Ok(None),
+            Failure::Usage(_) | Failure::Words(_) | Failure::Selector(_) | Failure::Stopped(_) =>
+                Ok(None),
+        }
+    }
+}
+
+// Returns what an error of the library is in a word.
+fn code_of(fault: &RunFault) -> ErrorCode {
+    match fault {
+        RunFault::Hex => ErrorCode::Hex,
+        RunFault::Car(
+            CarFault {
+                kind: CarKind::Memory,
+                ..
+            },
+        )
+        | RunFault::Memory => ErrorCode::Memory,
+        RunFault::Car(_) => ErrorCode::Car,
+        RunFault::Jobs(_) => ErrorCode::Jobs,
+        RunFault::Write(_) => ErrorCode::Write,
+        _ => ErrorCode::Job,
+    }
+}
+
+// Returns the one line for an error in a file: its path, the error, and the cause.
+fn line_of_file(
+    alloc: Global,
+    fault: &RunFault,
+    path: &str,
+    cause: &str,
+) -> Result<String, AllocError> {
+    match fault {
+        RunFault::Car(CarFault { kind, place }) => {
+            format!(in alloc; "{path}: {kind} at {place}: {cause}")
+        }
+        fault => {
+            let line = fault_line(alloc, fault)?;
+            format!(in alloc; "{path}: {line}: {cause}")
         }
     }
 }

@@ -186,7 +186,7 @@ fn size_fault<R: Files + AllocGlobal>(
     }
     match available_memory(rt) {
         Some(free) if free < size => Ok(Some(format!(in rt.alloc();
-            "it has {size} bytes, and {free} bytes of memory are available: split it, or use a machine with more"
+            "it has {size} bytes, and {free} bytes of memory are available: free some, or use a machine with more"
         )?)),
         _ => Ok(None),
     }

@@ -7,8 +7,10 @@ use std::fs;
 use std::io::{self, ErrorKind};
 use std::rt::Files;
 
-// The paths of standard input, where the system has them.
+// The paths of standard input and standard output, where the system has them.
 const STANDARD_INPUT_PATHS: [&str; 2] = ["/dev/stdin", "/proc/self/fd/0"];
+
+const STANDARD_OUTPUT_PATHS: [&str; 2] = ["/dev/stdout", "/proc/self/fd/1"];
 
 /// Which file an input is.
 #[derive(Clone, Copy)]
@@ -67,6 +69,27 @@ pub(crate) fn check_no_input<R: Files>(rt: &R, path: &str, inputs: &[InputFile])
             }
             _ => {}
         }
+    }
+    Ok(())
+}
+
+/// Rejects standard output if it is a regular file and one of the inputs.
+pub(crate) fn check_stream<R: Files>(rt: &R, inputs: &[InputFile]) -> io::Result<()> {
+    for name in STANDARD_OUTPUT_PATHS {
+        let Ok(metadata) = fs::metadata(rt, name) else {
+            continue;
+        };
+        let output = FileId::of(&metadata);
+        let mut known = inputs.iter();
+        if metadata.is_file()
+            && known.any(|input| matches!(input, InputFile::Known(id) if *id == output))
+        {
+            return Err(io::Error::new(
+                ErrorKind::AlreadyExists,
+                "it is an input: give another output",
+            ));
+        }
+        return Ok(());
     }
     Ok(())
 }

@@ -1,9 +1,10 @@
 //! The outputs of a run: one for each job.
 //!
-//! The archive of a job is written to `DIR/NAME.car.part`. It is renamed to `DIR/NAME.car` when the run
-//! has ended and the job is reported as done or limit, before the report is printed.
+//! The archive of a job is written to `DIR/NAME.car.part`. It is renamed to `DIR/NAME.car` as its job ends.
 
-ghost use Rattle.std.specs.Prelude.{◌≡◌, length, map, IfOk, string_bytes};
+ghost use Rattle.std.specs.Prelude.{◌≡◌, map, IfOk, IfErr, string_bytes};
+ghost use Rattle.ix_run.specs.declared.fault.RunFault.TheVariants.{Memory};
+ghost use Rattle.ix_cli_io.specs.declared.fault.Failure.TheVariants.{Fault};
 ghost use Rattle.ix_cli_io.specs.Failure.{output_path, RefusesOutputOf, RefusesOutputs};
 ghost use Rattle.ix_cli_io.specs.Output.{path_of, MakesOutputs};
 ghost use Rattle.ix_cli_io.specs.Naming.{Joins};
@@ -12,8 +13,7 @@ use crate::check::check_output;
 use crate::fault::Failure;
 use crate::input_file::{InputFile, identify_all};
 use crate::naming::Naming;
-use crate::output::{Output, OutputWriter};
-use crate::write_errors::WriteErrors;
+use crate::output::{Output, Published};
 use ix_jobs::JobResult;
 use ix_walk::Job;
 use std::alloc::{AllocError, Global};
@@ -89,24 +89,10 @@ fn output_of<R: Files<File = File> + AllocGlobal>(
     Output::begin(rt, path, is_synced)
 }
 
-/// Makes a writer to each output. The first error of their writes is recorded.
-pub fn writers_to<'a>(
-    alloc: Global,
-    outputs: &'a [Output],
-    errors: &'a WriteErrors,
-) -> Result<Vec<OutputWriter<'a>>, AllocError>
-    ensures { IfOk result (λ writers. length writers.items ≡ length outputs.now) }
-{
-    let mut writers = Vec::with_capacity(alloc, outputs.len())?;
-    for output in outputs {
-        writers.push(output.writer(alloc, errors)?)?;
-    }
-    Ok(writers)
-}
-
-/// Publishes each output, in the order of the jobs, whose results these are. Returns the first failure,
+/// Publishes each output, in the order of the jobs, whose results these are: one that was settled as its job
+/// ended is renamed no more. Returns the first failure,
 /// and publishes those after it nevertheless. Otherwise it returns notes for the user, one line each:
-/// which archive stays as `.part` and why, and which replaced a file though it isn't complete.
+/// which archive stays as `.part` and why, and which replaced a file and what it lacks.
 pub fn publish_outputs<R: AllocGlobal + Files<File = File>>(
     rt: &R,
     outputs: Vec<Output>,
@@ -127,18 +113,26 @@ pub fn publish_outputs<R: AllocGlobal + Files<File = File>>(
 // Adds a note to the notes, or returns the first failure.
 fn joined(
     notes: Result<String, Failure>,
-    note: Result<Option<String>, Failure>,
+    note: Result<Published, Failure>,
 ) -> Result<String, Failure>
     ensures { Joins notes note result }
 {
     match (notes, note) {
-        (Ok(mut notes), Ok(Some(note))) => match notes.push_str(note.as_str()) {
-            Ok(()) => Ok(notes),
-            Err(error) => Err(Failure::from(error)),
-        },
+        (Ok(notes), Ok(published)) => with_note(notes, published.note),
         (Ok(_), Err(failure)) => Err(failure),
-        (notes, _) => notes,
+        (Err(failure), _) => Err(failure),
     }
+}
+
+// Adds a note to the notes, if there is one.
+fn with_note(notes: String, note: Option<String>) -> Result<String, Failure>
+    ensures { IfErr result (λ failure. failure ≡ Fault Memory) }
+{
+    let mut notes = notes;
+    if let Some(note) = note {
+        notes.push_str(note.as_str())?;
+    }
+    Ok(notes)
 }
 
 /// Discards outputs, in their order.

@@ -7,7 +7,7 @@
 use std::alloc::{AllocError, Global};
 use std::fs::{self, File, Metadata, OpenFile, OpenOptions, Permissions, TryLockError};
 use std::io::{self, ErrorKind};
-use std::os::unix::fs::{MetadataExt, PermissionsExt};
+use std::os::unix::fs::{MetadataExt, OpenOptionsExt, PermissionsExt};
 use std::rt::Files;
 
 // The error numbers of file systems without locks: ENOLCK, ENOSYS, EOPNOTSUPP.
@@ -16,8 +16,10 @@ const NO_LOCKS: [i32; 3] = [37, 38, 95];
 // How many times a new file is tried to be locked while another run has it locked for a moment.
 const LOCK_TRIES: u32 = 1_000;
 
-// The permission bits of a file.
+// The permission bits of a file, and those of a new one before the process's mask.
 const PERMISSION_BITS: u32 = 0o777;
+
+const NEW_FILE: u32 = 0o666;
 
 /// Returns the path at which an output is written before it is renamed.
 pub(crate) fn part_path(alloc: Global, path: &str) -> Result<String, AllocError> {
@@ -133,11 +135,21 @@ fn remove_stale<R: Files<File = File>>(rt: &R, part: &str) -> io::Result<()> {
     }
 }
 
-/// Creates the part at a path, in place of a stale one, and locks it. If anything fails after that, the
-/// file is removed.
-pub(crate) fn create_part<R: Files<File = File>>(rt: &R, part: &str) -> io::Result<File> {
+/// Creates the part of a path, in place of a stale one, and locks it. If anything fails after that, the
+/// file is removed. It has no permission bits that the file doesn't have that it will replace.
+pub(crate) fn create_part<R: Files<File = File>>(
+    rt: &R,
+    part: &str,
+    path: &str,
+) -> io::Result<File> {
     remove_stale(rt, part)?;
-    let file = match File::create_new(rt, part) {
+    let bits = match fs::symlink_metadata(rt, path) {
+        Ok(replaced) if replaced.is_file() => replaced.permissions().mode() & PERMISSION_BITS,
+        _ => NEW_FILE,
+    };
+    let mut options = OpenOptions::new();
+    options.write(true).create_new(true).mode(bits);
+    let file = match options.open(rt, part) {
         Err(error) if error.kind() == ErrorKind::AlreadyExists => return Err(in_use()),
         made => made?,
     };

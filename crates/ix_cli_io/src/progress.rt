@@ -3,6 +3,7 @@
 ghost use Rattle.std.specs.Prelude.{◌≡◌};
 ghost use Rattle.ix_cli_io.specs.Progress.{is_shown};
 
+use ix_archive::{End, Skip};
 use ix_run::Observer;
 use std::cell::Cell;
 use std::io::{self, Read};
@@ -90,6 +91,11 @@ impl<'a, R: AllocGlobal + Clock + Eprint> Progress<'a, R> {
         ensures { result ≡ is_shown self.now.mode }
     {
         self.mode != ProgressMode::Off
+    }
+
+    /// Returns the progress if it is shown at all.
+    pub fn shown(&self) -> Option<&Progress<'a, R>> {
+        if self.is_shown() { Some(self) } else { None }
     }
 
     /// Sets how many bytes of blocks there are to be read.
@@ -289,7 +295,7 @@ impl<'a, R: AllocGlobal + Clock + Eprint> Observer for Progress<'a, R> {
         }
     }
 
-    fn on_close(&self) {
+    fn on_close(&self, _number: usize, _end: End, _skips: &[Skip]) {
         let closed = self.closed.get().saturating_add(1);
         self.closed.set(closed);
         let is_last = closed == self.jobs.get();

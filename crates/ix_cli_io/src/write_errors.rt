@@ -2,14 +2,19 @@
 
 ghost use Rattle.std.specs.Prelude.{◌≡◌, IfOk};
 ghost use Rattle.std.specs.Io.Buffered.{writer_inner};
+ghost use Rattle.std.specs.Io.{WritesAtMost};
+ghost use Rattle.std.specs.Io.KnownBytes.{WriteAppends};
 
 use crate::fault::cause_of;
 use std::alloc::{AllocError, Global};
 use std::cell::Cell;
-use std::io::{self, BufWriter, Write};
+use std::io::{self, BufWriter, ErrorKind, Write};
 
 // The size of a writer's buffer, in bytes.
 const BUFFER: usize = 16 * 1024;
+
+// How often a write that is interrupted is tried again.
+const WRITE_TRIES: u32 = u32::MAX;
 
 /// The first error of a run's writes, if one failed. One thread records it.
 #[derive(Drop)]
@@ -38,19 +43,33 @@ impl WriteErrors {
         }
     }
 
-    // Records an error, unless there was one before.
-    fn note<T>(&self, answer: &io::Result<T>) {
+    /// Records an error, unless there was one before.
+    pub(crate) fn note<T>(&self, answer: &io::Result<T>) {
         if let (Err(error), None) = (answer, self.first.get()) {
             self.first.set(Some(*error));
         }
     }
 }
 
-/// A writer whose first error is recorded.
+/// A writer whose first error is recorded. A write that is interrupted is tried again.
 #[derive(Drop)]
 pub struct Noted<'a, W> {
     writer: W,
     errors: &'a WriteErrors,
+}
+
+// Writes to a writer, and again where the write is interrupted.
+fn write_again<W: Write>(writer: &mut W, buf: &[u8]) -> io::Result<usize>
+    ensures bound { WritesAtMost result buf.now }
+    ensures bytes { WriteAppends (W.contents writer.old) (W.contents writer.new) result buf.now }
+{
+    for _ in 0..WRITE_TRIES {
+        match writer.write(buf) {
+            Err(error) if error.kind() == ErrorKind::Interrupted => {}
+            written => return written,
+        }
+    }
+    writer.write(buf)
 }
 
 impl<'a, W> Noted<'a, W> {
@@ -79,7 +98,7 @@ impl<'a, W: Write> Write for Noted<'a, W> {
     ghost contents = { λ noted. W.contents noted.writer };
 
     fn write(&mut self, buf: &[u8]) -> io::Result<usize> {
-        let written = self.writer.write(buf);
+        let written = write_again(&mut self.writer, buf);
         self.errors.note(&written);
         written
     }
