@@ -1,8 +1,8 @@
 //! A command as a row of the table of commands, the clap command made of it, and errors in its name.
 
-use crate::options::{ArgSpec, arguments_of};
-use clap::Command;
+use crate::options::{ArgKind, ArgSpec, arguments_of};
 use clap::error::ErrorKind;
+use clap::{ArgMatches, Command};
 use std::alloc::{AllocError, Global};
 
 /// A command: its name, its texts in the help, and its arguments.
@@ -26,6 +26,31 @@ impl CommandSpec {
             Ok(command) => refusal_by(command, name.as_str(), kind, message),
             Err(error) => Err(error),
         }
+    }
+
+    /// Rejects a number with a sign among the arguments of the command.
+    pub fn check_numbers<'a>(
+        &'static self,
+        alloc: Global,
+        words: &ArgMatches<'a>,
+    ) -> Result<(), clap::Error> {
+        for row in self.words {
+            let is_number = matches!(
+                row.given,
+                ArgKind::Number | ArgKind::NumberByProcessors | ArgKind::Limit
+            );
+            if is_number
+                && let Some(text) = row.optional_text(words)
+                && text.starts_with('+')
+            {
+                let message = format!(in alloc;
+                    "invalid value '{text}' for '--{} <N>': N has no sign",
+                    row.name
+                )?;
+                return Err(self.refusal(alloc, ErrorKind::ValueValidation, message.as_str())?);
+            }
+        }
+        Ok(())
     }
 
     /// Makes the error for an option of the command whose value is empty.

@@ -25,11 +25,12 @@ pub use file_output::output_path;
 pub use host::{Host, Terminals};
 pub use kinds::{CARV2_HEADER, cause_of, is_of_carv2, words_of};
 pub use options::{
-    ALLOW_MISSING, ArgKind, ArgSpec, BLOCKS, CARV2, JSON, MAX_INPUT, MAX_INPUT_1G, MAX_LIMIT,
-    NO_SYNC, PREFER_SOUND, PREFETCH, PROGRESS, QUIET, QUIET_ACCEPTED, QUIET_PROGRESS, SYNC,
-    VERBOSE, VERIFIERS, VERIFIERS_4, WALKERS, WALKERS_4, WITHOUT, WITHOUT_LIST,
+    ALLOW_MISSING, ArgKind, ArgSpec, BLOCKS, CARV2, JSON, JSON_ERRORS, MAX_INPUT, MAX_INPUT_1G,
+    MAX_LIMIT, NO_SYNC, PREFER_SOUND, PREFETCH, PROGRESS, QUIET, QUIET_ACCEPTED, QUIET_PROGRESS,
+    SYNC, VERBOSE, VERIFIERS, VERIFIERS_4, WALKERS, WALKERS_4, WHOLE, WITHOUT, WITHOUT_LIST,
+    naming,
 };
-pub use print::{later_note, print_all, print_answer, print_notes, print_refusal};
+pub use print::{failure_object, later_note, print_all, print_answer, print_notes};
 pub use processors::{at_most_processors, available_processors};
 pub use progress::progress_mode;
 pub use size::{given_size, most_input};

@@ -5,6 +5,7 @@
 ghost use Rattle.std.specs.Prelude.{◌≤◌};
 
 use clap::{Arg, ArgAction, ArgMatches, value_parser};
+use ix_cli_io::Naming;
 use ix_walk::GREATEST_LIMIT;
 use std::alloc::{AllocError, Global};
 
@@ -45,8 +46,12 @@ pub enum ArgKind {
     FlagWithout(&'static str),
     /// The same with several arguments.
     FlagWithoutAll(&'static [&'static str]),
+    /// An option that may be given several times, whose values may begin with a hyphen.
+    AnyMany(&'static str),
     /// A flag that says the opposite of the flag of this name. Of both the last one counts.
     FlagOver(&'static str),
+    /// A flag beside two others that say something else. Of the three the last one counts.
+    FlagOverBoth(&'static str, &'static str),
     /// A required positional argument.
     Positional(&'static str),
     /// An optional positional argument.
@@ -195,6 +200,14 @@ pub const NO_SYNC: ArgSpec = ArgSpec {
     help: "Rename FILE without waiting for the disk",
 };
 
+/// Whether an archive is renamed only if nothing was skipped, at the commands with `--complete` and
+/// `--partial`.
+pub const WHOLE: ArgSpec = ArgSpec {
+    name: "whole",
+    given: ArgKind::FlagOverBoth("complete", "partial"),
+    help: "Rename only if done and nothing was skipped",
+};
+
 /// Whether the cause of an error is printed where an error has one line.
 pub const VERBOSE: ArgSpec = ArgSpec {
     name: "verbose",
@@ -208,6 +221,26 @@ pub const JSON: ArgSpec = ArgSpec {
     given: ArgKind::Flag,
     help: "Report as JSON, one object per line",
 };
+
+/// Whether an error is printed as JSON too, at the commands whose answer is a block.
+pub const JSON_ERRORS: ArgSpec = ArgSpec {
+    name: "json",
+    given: ArgKind::Flag,
+    help: "Report an error as JSON too, on stderr",
+};
+
+/// Returns which archives are renamed: what the last of `--whole`, `--complete` and `--partial` says, or this.
+pub fn naming<'a>(words: &ArgMatches<'a>, default: Naming) -> Naming {
+    if words.get_flag("whole") {
+        Naming::Whole
+    } else if words.get_flag("complete") {
+        Naming::Complete
+    } else if words.get_flag("partial") {
+        Naming::Ended
+    } else {
+        default
+    }
+}
 
 // The short form of an option, which is the same at each command.
 fn short_of(name: &str) -> Option<char> {
@@ -293,6 +326,7 @@ fn argument_of<'a>(alloc: Global, row: &'static ArgSpec) -> Result<Arg<'a>, Allo
             option(alloc, row, value).conflicts_with_all(&[one, other])
         }
         ArgKind::OptionalMany(value) => Ok(options(alloc, row, value)),
+        ArgKind::AnyMany(value) => Ok(options(alloc, row, value).allow_hyphen_values(true)),
         ArgKind::ManyWithout(value, other) => options(alloc, row, value).conflicts_with(other),
         ArgKind::Number => Ok(number(alloc, row).default_value("4")),
         ArgKind::NumberByProcessors => Ok(number(alloc, row)),
@@ -301,6 +335,9 @@ fn argument_of<'a>(alloc: Global, row: &'static ArgSpec) -> Result<Arg<'a>, Allo
         ArgKind::FlagWithout(other) => flag(alloc, row).conflicts_with(other),
         ArgKind::FlagWithoutAll(others) => flag(alloc, row).conflicts_with_all(others),
         ArgKind::FlagOver(other) => flag(alloc, row).overrides_with_all(&[other, row.name]),
+        ArgKind::FlagOverBoth(one, other) => {
+            flag(alloc, row).overrides_with_all(&[one, other, row.name])
+        }
         ArgKind::Positional(value) => Ok(positional(alloc, row, value).required(true)),
         ArgKind::OptionalPositional(value) => Ok(positional(alloc, row, value)),
         ArgKind::Many(value) => Ok(positionals(alloc, row, value)),

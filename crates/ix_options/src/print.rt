@@ -1,6 +1,7 @@
 //! Prints what commands answer.
 
-use ix_cli_io::{Failure, REFUSED};
+use ix_cli_io::Failure;
+use ix_json_report::{ErrorNote, push_error};
 use std::alloc::{AllocError, Global};
 use std::io::{self, Write};
 
@@ -19,17 +20,6 @@ pub fn print_answer<R: AllocGlobal + Print>(
     print_all(rt, text?.as_bytes()).map(|()| 0)
 }
 
-/// Prints to standard error why the arguments are rejected, and returns the status. If standard error
-/// can't be written, there is no one to report to.
-pub fn print_refusal<R: AllocGlobal + Eprint>(
-    rt: &R,
-    line: Result<String, AllocError>,
-) -> Result<u8, Failure> {
-    let line = line?;
-    let _ = rt.eprintln(line.as_str());
-    Ok(REFUSED)
-}
-
 /// Prints notes to standard error. If it can't be written, or memory runs out, there is no one to report
 /// to.
 pub fn print_notes<R: Eprint>(rt: &R, notes: Result<String, AllocError>) {
@@ -42,4 +32,24 @@ pub fn print_notes<R: Eprint>(rt: &R, notes: Result<String, AllocError>) {
 pub fn later_note(alloc: Global, about: &str, count: usize) -> Result<String, AllocError> {
     let blocks = if count == 1 { "block" } else { "blocks" };
     format!(in alloc; "{about}: {count} {blocks} from a later copy\n")
+}
+
+/// Returns the line with the object of a failure, or None if the parser of the command line rejected the arguments.
+pub fn failure_object(alloc: Global, failure: &Failure) -> Result<Option<Vec<u8>>, AllocError> {
+    let Some(code) = failure.code() else {
+        return Ok(None);
+    };
+    let message = failure.message(alloc)?;
+    let none = None;
+    let (cid, path) = match failure {
+        Failure::Stopped(stop) => (&stop.cid, &stop.path),
+        _ => (&none, &none),
+    };
+    let note = ErrorNote {
+        code: code.word(),
+        message: message.as_str(),
+        cid,
+        path,
+    };
+    Ok(Some(push_error(Vec::new(alloc), note)?))
 }
