@@ -7,8 +7,10 @@ use clap::ArgMatches;
 use clap::error::ErrorKind;
 use ix_base::Base;
 use ix_car::{BlockLoader, CarFault, Payload, SoundLoader, payload_of, read_header};
-use ix_cid::Cid;
-use ix_cli_io::{Failure, Progress, STANDARD_INPUT, load_input, size_of_all};
+use ix_cid::{Cid, read_varint};
+use ix_cli_io::{
+    Failure, Progress, STANDARD_INPUT, check_index, check_memory, load_input, size_of_all,
+};
 use ix_inspect::{Kind, kind_of};
 use ix_options::{
     ArgSpec, BLOCKS, CommandSpec, PREFER_SOUND, WITHOUT, cause_of, later_note, print_notes,
@@ -39,6 +41,35 @@ pub struct BlockFiles<'a> {
 const TABLE_DIVISOR: usize = 8;
 
 const TABLE_EXTRA: usize = 16 * 1024 * 1024;
+
+// The cause where memory runs out for the blocks of a file.
+const OUT_OF_MEMORY: &str =
+    "there is no memory for the index of its blocks: free some, or use a machine with more";
+
+// What memory runs out for once all files are read.
+const INDEX: &str = "the index of the blocks";
+
+// The least length of a section: that of an identity CID without bytes, and its own length.
+const LEAST_SECTION: u64 = 5;
+
+/// How much memory the index of blocks takes.
+#[derive(Clone, Copy)]
+pub enum Indexed {
+    /// 64 bytes a section.
+    Alone,
+    /// 80 bytes a section, with what is kept of one job that is prefetched.
+    Prefetched,
+}
+
+impl Indexed {
+    // Returns how many bytes so many sections take.
+    fn bytes(self, sections: u64) -> u64 {
+        sections.saturating_mul(match self {
+            Indexed::Alone => 64,
+            Indexed::Prefetched => 80,
+        })
+    }
+}
 
 /// The settled store of a command's blocks.
 #[derive(Drop)]
@@ -192,7 +223,8 @@ impl<'a> BlockFiles<'a> {
         self.paths.iter().any(|path| *path == STANDARD_INPUT)
     }
 
-    /// Reads the files, one after the other. A large one is read by so many threads.
+    /// Reads the files, one after the other. A large one is read by so many threads. Files that are larger
+    /// together than the memory that is available are rejected before the first is read.
     pub fn read<R>(
         &self,
         rt: &R,
@@ -202,6 +234,7 @@ impl<'a> BlockFiles<'a> {
     where
         R: AllocGlobal + Clock + Eprint + Files<File = File> + Input + Threads + Sync,
     {
+        check_memory(rt, self.paths())?;
         progress.expect(size_of_all(rt, self.paths()));
         self.read_more(rt, threads, progress)
     }
@@ -218,7 +251,10 @@ impl<'a> BlockFiles<'a> {
     {
         let mut files = Vec::with_capacity(rt.alloc(), self.paths.len())?;
         for path in self.paths() {
-            files.push(load_input(rt, path, self.most, threads, progress)?)?;
+            match load_input(rt, path, self.most, threads, progress) {
+                Ok(bytes) => files.push(bytes)?,
+                Err(failure) => return Err(failure.at(rt, path)),
+            }
         }
         Ok(files)
     }
@@ -236,12 +272,14 @@ impl<'a> BlockFiles<'a> {
 
     /// Makes the store of the blocks of the files that were read: those of their sections in order, the
     /// first of each CID, or the first that is sound if that is asked for.
-    pub fn store_of<R: AllocGlobal + Threads + Sync>(
+    pub fn store_of<R: AllocGlobal + Files + Threads + Sync>(
         &self,
         rt: &R,
         files: Vec<Vec<u8>>,
         threads: usize,
+        indexed: Indexed,
     ) -> Result<LoadedBlocks, Failure> {
+        self.check_index(rt, files.as_slice(), indexed)?;
         let alloc = rt.alloc();
         let mut loader = self.new_loader(alloc);
         let mut size: usize = 0;
@@ -253,7 +291,32 @@ impl<'a> BlockFiles<'a> {
                 Err(fault) => return Err(self.refusal(alloc, path, fault, kind)),
             }
         }
-        loader.finish(rt, size, threads).map_err(Failure::from)
+        match loader.finish(rt, size, threads) {
+            Ok(blocks) => Ok(blocks),
+            Err(error) => Err(Failure::from(error).at(rt, INDEX)),
+        }
+    }
+
+    // Rejects the file with which the index of the blocks takes more memory than is available. Sections are counted
+    // only where there may be so many.
+    fn check_index<R: AllocGlobal + Files>(
+        &self,
+        rt: &R,
+        files: &[Vec<u8>],
+        indexed: Indexed,
+    ) -> Result<(), Failure> {
+        let mut most: u64 = 0;
+        let mut count: u64 = 0;
+        for (path, bytes) in self.paths.iter().zip(files) {
+            most = most.saturating_add(bytes.len() as u64 / LEAST_SECTION);
+            if check_index(rt, path, indexed.bytes(most)).is_ok() {
+                continue;
+            }
+            count = count.saturating_add(sections_in(bytes.as_slice()));
+            check_index(rt, path, indexed.bytes(count))?;
+            most = count;
+        }
+        Ok(())
     }
 
     // Creates the loader that is asked for.
@@ -325,37 +388,57 @@ impl<'a> BlockFiles<'a> {
         }
     }
 
-    // Returns the failure for a file with an error. It names the file if there are several, or if it is what
-    // the receiver has.
+    // Returns the failure for a file with an error. Its line names the file if there are several, or if it is
+    // what the receiver has.
     fn refusal(&self, alloc: Global, path: &str, fault: CarFault, kind: Kind) -> Failure {
-        let Some(cause) = cause_of(&fault, kind) else {
-            return Failure::from(RunFault::from(fault));
-        };
-        let file = if self.is_base || self.paths.len() > 1 {
-            Some(path)
-        } else {
-            None
-        };
-        match explained(alloc, fault, cause, file) {
+        let cause = cause_of(&fault, kind).unwrap_or(OUT_OF_MEMORY);
+        let is_named = self.is_base || self.paths.len() > 1;
+        match explained(alloc, fault, path, cause, is_named) {
             Ok(failure) => failure,
             Err(_) => Failure::Fault(RunFault::Memory),
         }
     }
 }
 
-// Adds the cause to an error, and the file in which it is.
+// Adds to an error the file in which it is, whether or not its line names that, and the cause.
 fn explained(
     alloc: Global,
     fault: CarFault,
+    path: &str,
     cause: &str,
-    file: Option<&str>,
+    is_named: bool,
 ) -> Result<Failure, AllocError> {
+    let path = String::from_str(alloc, path)?;
     let cause = String::from_str(alloc, cause)?;
     let fault = RunFault::from(fault);
-    match file {
-        Some(path) => Ok(Failure::InFile(fault, String::from_str(alloc, path)?, cause)),
-        None => Ok(Failure::Explained(fault, cause)),
+    if is_named {
+        Ok(Failure::InFile(fault, path, cause))
+    } else {
+        Ok(Failure::Explained(fault, path, cause))
     }
+}
+
+// Returns how many sections a file has, with its header, up to the first that isn't whole.
+fn sections_in(bytes: &[u8]) -> u64 {
+    let mut rest = match payload_of(bytes) {
+        Ok(payload) => &bytes[payload.start..payload.end],
+        Err(_) => return 0,
+    };
+    let mut count: u64 = 0;
+    for _ in 0..bytes.len() {
+        let Ok((length, size)) = read_varint(rest) else {
+            break;
+        };
+        let end = usize::try_from(length)
+            .unwrap_or(usize::MAX)
+            .saturating_add(size);
+        if end > rest.len() {
+            break;
+        }
+        (_, rest) = rest.split_at(end);
+        count = count.saturating_add(1);
+    }
+    count
 }
 
 // Returns the roots in the header of a CARv1 file, or of the one in a CARv2 file.

@@ -6,26 +6,30 @@
 //! ```rust
 //! let files = BlockFiles::given(alloc, &SPEC, words, most, true)?;
 //! let bytes = files.read(rt, 8, &progress)?;
-//! let blocks = files.store_of(rt, bytes, 8)?;
+//! let blocks = files.store_of(rt, bytes, 8, Indexed::Alone)?;
 //! ```
 #![tactic(auto)]
 
 mod blocks;
+mod cause;
 mod export;
 mod known;
+mod part;
 mod paths;
 mod prefetching;
 mod roots;
 mod segments;
 mod threads;
 
-pub use blocks::{BlockFiles, LoadedBlocks};
+pub use blocks::{BlockFiles, Indexed, LoadedBlocks};
+pub use cause::{code_of_verdict, verdict_line, verdict_stop};
 pub use export::{allowed_missing, forget_store};
 pub use known::{KnownInputs, refused_inputs};
-pub use paths::{RootPaths, Unresolved, obstacle_line, path_of};
+pub use part::{PART, given_part};
+pub use paths::{RootPaths, Unresolved, obstacle_stop, path_of, path_text};
 pub use prefetching::Prefetching;
 pub use roots::{
-    NoJobs, RootWords, Roots, SCOPE, SELECTOR, SELECTOR_HEX, SOME_ROOT, Scope, no_jobs, no_roots,
-    refused_roots, roots_note, roots_text,
+    RootWords, Roots, SCOPE, SELECTOR, SELECTOR_HEX, SOME_ROOT, Scope, at_root, clones, no_jobs,
+    no_roots, refused_roots, roots_note, roots_text, some_root,
 };
-pub use threads::{RunReport, ThreadCounts};
+pub use threads::{RunOutputs, RunReport, ThreadCounts};

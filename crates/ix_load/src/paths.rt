@@ -1,12 +1,13 @@
 //! Paths after the CIDs of roots: how they are given, where they lead, and the selector to there.
 
+use crate::cause::{code_of_verdict, verdict_line};
 use crate::roots::MATCHER;
 use crate::segments::selector_by_segments;
 use clap::error::ErrorKind;
 use hex::FromHexError;
 use ix_cbor::{CborKind, Front, Tree, decode, read_front, read_key, skip_item};
 use ix_cid::Cid;
-use ix_cli_io::Failure;
+use ix_cli_io::{ErrorCode, Failure, Stop};
 use ix_job_line::SelectorWord;
 use ix_options::CommandSpec;
 use ix_path::{
@@ -15,12 +16,16 @@ use ix_path::{
 use ix_path_selector::{PathEnd, PathSelectorFault, selector_along, steps_along};
 use ix_selector_json::{NotationFault, fault_line};
 use ix_store::Store;
+use ix_verdict::Verdict;
 use std::alloc::{AllocError, Global};
 use std::fmt::Write;
 use std::str;
 
 // How many keys of a map are named at most.
 const MOST_KEYS: usize = 20;
+
+// How many bytes of a segment or a key are shown at most.
+const MOST_SHOWN: usize = 256;
 
 // How many bytes the selector along a path that isn't resolved has at most, and about how many a step adds
 // to its segment.
@@ -37,8 +42,8 @@ pub struct RootPaths {
 /// Why there is no selector to where paths lead.
 #[derive(Drop)]
 pub enum Unresolved {
-    /// This line says what there is instead, or that the paths lead along different steps.
-    Line(String),
+    /// There is something else instead, or the paths lead along different steps.
+    Stopped(Stop),
     /// The path and the selector at its end nest more than 128 deep together.
     TooDeep,
     /// Memory ran out.
@@ -53,7 +58,7 @@ impl From<AllocError> for Unresolved {
 
 impl RootPaths {
     /// Parses roots with commas between them, of which each may have a path of at most so many segments,
-    /// and appends the segments that have an option of their own. Returns None if no root has a path.
+    /// and appends the segments that have an option of their own.
     pub fn given(
         alloc: Global,
         spec: &'static CommandSpec,
@@ -61,13 +66,16 @@ impl RootPaths {
         roots: &str,
         names: &[&str],
         most: usize,
-    ) -> Result<Option<RootPaths>, Failure> {
-        if names.is_empty() && !roots.contains('/') {
-            return Ok(None);
-        }
+    ) -> Result<RootPaths, Failure> {
         let mut paths = Vec::new(alloc);
         for root in roots.split(',') {
-            paths.push(path_of(alloc, spec, option, root, names, most)?)?;
+            match parsed(alloc, root, names, most) {
+                Ok(path) => paths.push(path)?,
+                Err(error) => {
+                    let is_later = !paths.is_empty();
+                    return Err(unread_root(alloc, spec, option, root, error, is_later)?);
+                }
+            }
         }
         let roots = RootPaths { paths };
         if !roots.are_alike() {
@@ -77,7 +85,14 @@ impl RootPaths {
             )?;
             return Err(Failure::from(refused_root(alloc, spec, option, why.as_str())?));
         }
-        Ok(Some(roots))
+        Ok(roots)
+    }
+
+    /// Makes those of one root with this path.
+    pub fn of(alloc: Global, path: RootPath) -> Result<RootPaths, AllocError> {
+        let mut paths = Vec::with_capacity(alloc, 1)?;
+        paths.push(path)?;
+        Ok(RootPaths { paths })
     }
 
     // Whether all roots have the same path.
@@ -95,16 +110,13 @@ impl RootPaths {
         self.paths.iter().any(|path| !path.segments.is_empty())
     }
 
-    /// Returns the CIDs of the roots, with commas between them.
-    pub fn roots_text(&self, alloc: Global) -> Result<String, AllocError> {
-        let mut text = String::new(alloc);
+    /// Returns the CIDs of the roots.
+    pub fn cids(&self, alloc: Global) -> Result<Vec<Cid>, AllocError> {
+        let mut cids = Vec::with_capacity(alloc, self.paths.len())?;
         for path in &self.paths {
-            if !text.is_empty() {
-                text.push(',')?;
-            }
-            text.push_str(path.root.text(alloc)?.as_str())?;
+            cids.push(path.root.try_clone(alloc)?)?;
         }
-        Ok(text)
+        Ok(cids)
     }
 
     /// Returns the selector, in hex, that goes from each root to where its path leads in the store, and
@@ -148,9 +160,10 @@ impl RootPaths {
                 .iter()
                 .filter(|segment| index_of(segment.as_slice()).is_some())
                 .count();
-            return Err(Unresolved::Line(format!(in alloc;
+            let line = format!(in alloc;
                 "the selector of the path has over {MOST_SELECTOR} bytes, since each of its {count} numbers, a key or an index, doubles it"
-            )?));
+            )?;
+            return Err(Unresolved::Stopped(Stop::new(ErrorCode::Path, line)));
         }
         let end = path_end(alloc, word, inner)?;
         hex_of(alloc, selector_by_segments(alloc, segments, end))
@@ -167,13 +180,16 @@ impl RootPaths {
         for path in &self.paths {
             let found = resolve(alloc, store, &path.root, path.segments.as_slice())?;
             if let Err(obstacle) = &found.end {
-                return Err(Unresolved::Line(obstacle_line(alloc, path, &found, obstacle)?));
+                return Err(Unresolved::Stopped(obstacle_stop(
+                    alloc, store, path, &found, obstacle,
+                )?));
             }
             if !steps.is_empty() && steps != found.steps {
-                return Err(Unresolved::Line(String::from_str(
+                let line = String::from_str(
                     alloc,
                     "the path is by keys from one root and by indexes from another: give one `get` per root",
-                )?));
+                )?;
+                return Err(Unresolved::Stopped(Stop::new(ErrorCode::Path, line)));
             }
             steps = found.steps;
         }
@@ -190,23 +206,43 @@ pub fn path_of(
     names: &[&str],
     most: usize,
 ) -> Result<RootPath, Failure> {
-    let mut path = match RootPath::parse(alloc, text, most) {
-        Ok(path) => path,
-        Err(PathError::Memory) => return Err(Failure::from(AllocError)),
-        Err(error) => {
-            let why = format!(in alloc; "'{text}': {error}")?;
-            return Err(Failure::from(refused_root(alloc, spec, option, why.as_str())?));
-        }
-    };
+    match parsed(alloc, text, names, most) {
+        Ok(path) => Ok(path),
+        Err(error) => Err(unread_root(alloc, spec, option, text, error, false)?),
+    }
+}
+
+// Parses a root with a path of at most so many segments, these among them.
+fn parsed(alloc: Global, text: &str, names: &[&str], most: usize) -> Result<RootPath, PathError> {
+    let mut path = RootPath::parse(alloc, text, most)?;
     for name in names {
         path.segments
             .push(Vec::from_slice(alloc, name.as_bytes())?)?;
     }
     if path.segments.len() > most {
-        let why = format!(in alloc; "'{text}': {}", PathError::TooManySegments(most))?;
-        return Err(Failure::from(refused_root(alloc, spec, option, why.as_str())?));
+        return Err(PathError::TooManySegments(most));
     }
     Ok(path)
+}
+
+// Makes the failure for a text that is no root with a path. What follows a comma may belong to the path
+// before it.
+fn unread_root(
+    alloc: Global,
+    spec: &'static CommandSpec,
+    option: &str,
+    text: &str,
+    error: PathError,
+    is_later: bool,
+) -> Result<Failure, AllocError> {
+    let why = match error {
+        PathError::Memory => return Err(AllocError),
+        PathError::Cid(_) if is_later => {
+            format!(in alloc; "'{text}' after a comma: {error}; a comma in a path is %2C")?
+        }
+        _ => format!(in alloc; "'{text}': {error}")?,
+    };
+    Ok(Failure::from(refused_root(alloc, spec, option, why.as_str())?))
 }
 
 // Returns about how many bytes the selector along segments has, if the one at their end has so many.
@@ -246,22 +282,61 @@ fn refused_root(
 
 /// Returns what there is where a path leads no further: which segment isn't there, in which block, and what
 /// is there instead.
-pub fn obstacle_line(
+pub fn obstacle_stop(
     alloc: Global,
+    store: &Store,
+    path: &RootPath,
+    found: &Resolution<'_>,
+    obstacle: &Obstacle<'_>,
+) -> Result<Stop, AllocError> {
+    let cid = match found.blocks.last() {
+        Some(cid) => cid.text(alloc)?,
+        None => path.root.text(alloc)?,
+    };
+    let mut stop = Stop::new(
+        code_of(obstacle),
+        obstacle_line(alloc, store, path, found, obstacle)?,
+    );
+    stop.cid = Some(cid);
+    stop.path = Some(path_text(alloc, path)?);
+    Ok(stop)
+}
+
+// Returns what an obstacle is in a word.
+fn code_of(obstacle: &Obstacle<'_>) -> ErrorCode {
+    match obstacle {
+        Obstacle::Block(verdict) => code_of_verdict(*verdict),
+        Obstacle::Map(_) => ErrorCode::NoKey,
+        Obstacle::List(_) => ErrorCode::NoIndex,
+        Obstacle::Scalar(_) => ErrorCode::NoChild,
+    }
+}
+
+/// Returns the text of a path: its root, and its segments after it.
+pub fn path_text(alloc: Global, path: &RootPath) -> Result<String, AllocError> {
+    let mut text = path.root.text(alloc)?;
+    for segment in &path.segments {
+        write!(text, "/{}", segment_text(alloc, segment.as_slice())?)?;
+    }
+    Ok(text)
+}
+
+// Returns the line of what there is where a path leads no further.
+fn obstacle_line(
+    alloc: Global,
+    store: &Store,
     path: &RootPath,
     found: &Resolution<'_>,
     obstacle: &Obstacle<'_>,
 ) -> Result<String, AllocError> {
-    let block = match found.blocks.last() {
-        Some(cid) => cid.text(alloc)?,
-        None => path.root.text(alloc)?,
-    };
+    let cid = found.blocks.last().unwrap_or(&path.root);
+    let block = cid.text(alloc)?;
     let segment = match path.segments.get(found.steps.len()) {
         Some(segment) => segment_text(alloc, segment.as_slice())?,
         None => String::new(alloc),
     };
     match obstacle {
-        Obstacle::Block(verdict) => format!(in alloc; "{verdict} {block}"),
+        Obstacle::Block(verdict) => verdict_line(alloc, store, *verdict, cid),
         Obstacle::Map(map) => {
             let keys = keys_text(alloc, map)?;
             format!(in alloc; "no key `{segment}` in {block}: {keys}")
@@ -307,22 +382,79 @@ fn keys_text(alloc: Global, map: &PathNode<'_>) -> Result<String, AllocError> {
     Ok(text)
 }
 
-// Returns a segment as it is, or if it isn't printable text, percent-escaped.
+// Returns a segment as it is typed in a path: what divides paths, blanks, and what a terminal doesn't show
+// are percent-escaped. A long one is cut.
 fn segment_text(alloc: Global, segment: &[u8]) -> Result<String, AllocError> {
-    if let Ok(text) = str::from_utf8(segment)
-        && !text.chars().any(|c| c.is_control())
-    {
-        return String::from_str(alloc, text);
-    }
     let mut text = String::new(alloc);
+    let mut size: usize = 0;
+    if let Ok(whole) = str::from_utf8(segment) {
+        for character in whole.chars() {
+            size = size.saturating_add(character.len_utf8());
+            if size > MOST_SHOWN {
+                text.push_str("..")?;
+                return Ok(text);
+            }
+            if is_escaped(character) {
+                push_escaped(alloc, &mut text, character)?;
+            } else {
+                text.push(character)?;
+            }
+        }
+        return Ok(text);
+    }
     for byte in segment {
-        if byte.is_ascii_graphic() && *byte != b'%' {
+        size = size.saturating_add(1);
+        if size > MOST_SHOWN {
+            text.push_str("..")?;
+            return Ok(text);
+        }
+        if byte.is_ascii() && !is_escaped(char::from(*byte)) {
             text.push(char::from(*byte))?;
         } else {
             write!(text, "%{byte:02X}")?;
         }
     }
     Ok(text)
+}
+
+// Appends the bytes of a character in UTF-8, each percent-escaped.
+fn push_escaped(alloc: Global, text: &mut String, character: char) -> Result<(), AllocError> {
+    let mut spelled = String::new(alloc);
+    spelled.push(character)?;
+    for byte in spelled.as_bytes() {
+        write!(text, "%{byte:02X}")?;
+    }
+    Ok(())
+}
+
+// Whether a character is escaped in the text of a segment: it divides paths, or is a blank or a control
+// character, or hidden: the marks of bidirectional text, and what has no width.
+fn is_escaped(character: char) -> bool {
+    character.is_control()
+        || matches!(
+            character,
+            ' ' | '%' | '/' | ',' | '?' | '#' | '`'
+                | '\u{a0}'
+                | '\u{ad}'
+                | '\u{34f}'
+                | '\u{61c}'
+                | '\u{115f}'
+                | '\u{1160}'
+                | '\u{1680}'
+                | '\u{17b4}'
+                | '\u{17b5}'
+                | '\u{180b}'..='\u{180f}'
+                | '\u{2000}'..='\u{200f}'
+                | '\u{2028}'..='\u{202f}'
+                | '\u{205f}'..='\u{206f}'
+                | '\u{3000}'
+                | '\u{3164}'
+                | '\u{fe00}'..='\u{fe0f}'
+                | '\u{feff}'
+                | '\u{ffa0}'
+                | '\u{fff0}'..='\u{fffb}'
+                | '\u{e0000}'..='\u{e0fff}'
+        )
 }
 
 // Returns what is selected where a path ends: what a word selects, whose selector has this hex.
@@ -354,5 +486,6 @@ fn selector_tree(alloc: Global, text: &str) -> Result<Tree, NotationFault> {
 
 // Makes the error for what is no selector.
 fn refused_selector(alloc: Global, fault: &NotationFault) -> Result<Unresolved, AllocError> {
-    Ok(Unresolved::Line(fault_line(alloc, fault)?))
+    let line = fault_line(alloc, fault)?;
+    Ok(Unresolved::Stopped(Stop::new(ErrorCode::Job, line)))
 }

@@ -4,7 +4,7 @@ use crate::paths::{RootPaths, Unresolved};
 use clap::ArgMatches;
 use clap::error::ErrorKind;
 use ix_cid::Cid;
-use ix_cli_io::Failure;
+use ix_cli_io::{ErrorCode, Failure, Stop};
 use ix_job_line::SelectorWord;
 use ix_options::{ArgKind, ArgSpec, CommandSpec};
 use ix_path::{GREATEST_SEGMENTS, MOST_SEGMENTS};
@@ -12,6 +12,9 @@ use std::alloc::{AllocError, Global};
 
 /// Without roots the other arguments are checked with this one: an identity CID without bytes.
 pub const SOME_ROOT: &str = "bafkqaaa";
+
+// The bytes of that.
+const SOME_ROOT_BYTES: [u8; 4] = [0x01, 0x55, 0x00, 0x00];
 
 /// The selector of the node alone where it is, {".":{}}, as DAG-CBOR in hex.
 pub(crate) const MATCHER: &str = "a1612ea0";
@@ -23,7 +26,7 @@ const TOO_DEEP: &str = "--root and --selector: the path and the selector at its 
 pub const SCOPE: ArgSpec = ArgSpec {
     name: "scope",
     given: ArgKind::Optional("SCOPE"),
-    help: "all below the end of the path, or its block alone",
+    help: "all|block|entity at the path's end [default: all]",
 };
 
 /// The selector from the roots, or from where their path ends.
@@ -101,11 +104,11 @@ impl Scope {
 
 /// How the roots are given.
 #[derive(Drop)]
-pub enum Roots<'a> {
+pub enum Roots {
     /// They aren't, so they are those in the header of the first file.
     Header,
-    /// As CIDs with commas between them.
-    Cids(&'a str),
+    /// As CIDs.
+    Cids(Vec<Cid>),
     /// As CIDs with a path.
     Paths(RootPaths),
 }
@@ -113,40 +116,20 @@ pub enum Roots<'a> {
 /// The roots of a job, and its selector in hex if it isn't that of the arguments.
 #[derive(Drop)]
 pub struct RootWords {
-    pub roots: String,
+    pub roots: Vec<Cid>,
     pub hex: Option<String>,
 }
 
-/// Why there are no jobs over the roots in a store.
-#[derive(Drop)]
-pub enum NoJobs {
-    Failure(Failure),
-    /// This line says where a path leads no further.
-    Line(String),
-}
-
-impl From<AllocError> for NoJobs {
-    fn from(error: AllocError) -> NoJobs {
-        NoJobs::Failure(Failure::from(error))
-    }
-}
-
-impl From<Failure> for NoJobs {
-    fn from(failure: Failure) -> NoJobs {
-        NoJobs::Failure(failure)
-    }
-}
-
-impl<'a> Roots<'a> {
+impl Roots {
     /// Reads the roots, if there are any, and the segments after the path of the one root.
     pub fn given(
         alloc: Global,
         spec: &'static CommandSpec,
         option: &str,
-        roots: Option<&'a str>,
+        roots: Option<&str>,
         names: &[&str],
         scope: Scope,
-    ) -> Result<Roots<'a>, Failure> {
+    ) -> Result<Roots, Failure> {
         let Some(text) = roots else {
             if names.is_empty() {
                 return Ok(Roots::Header);
@@ -167,29 +150,59 @@ impl<'a> Roots<'a> {
             return Err(Failure::from(error));
         }
         let most = scope.most_segments();
-        match RootPaths::given(alloc, spec, option, text, names, most)? {
-            Some(paths) => Ok(Roots::Paths(paths)),
-            None => Ok(Roots::Cids(text)),
+        let paths = RootPaths::given(alloc, spec, option, text, names, most)?;
+        if paths.leads_on() {
+            Ok(Roots::Paths(paths))
+        } else {
+            Ok(Roots::Cids(paths.cids(alloc)?))
         }
     }
 
-    /// Returns the CIDs of the roots, with commas between them, or one that stands for those in a header.
-    pub fn text(&self, alloc: Global) -> Result<String, AllocError> {
+    /// Returns the roots, or one that stands for those in a header.
+    pub fn cids(&self, alloc: Global) -> Result<Vec<Cid>, AllocError> {
         match self {
-            Roots::Header => String::from_str(alloc, SOME_ROOT),
-            Roots::Cids(text) => String::from_str(alloc, text),
-            Roots::Paths(paths) => paths.roots_text(alloc),
+            Roots::Header => some_root(alloc),
+            Roots::Cids(cids) => clones(alloc, cids.as_slice()),
+            Roots::Paths(paths) => paths.cids(alloc),
         }
     }
 }
 
-/// Makes the failure of a path that leads no further.
-pub fn no_jobs(alloc: Global, unresolved: Unresolved) -> Result<NoJobs, AllocError> {
+/// Makes the failure of a command that writes an archive, whose path leads no further.
+pub fn no_jobs(alloc: Global, unresolved: Unresolved) -> Result<Failure, AllocError> {
     match unresolved {
-        Unresolved::Line(line) => Ok(NoJobs::Line(format!(in alloc; "--root: {line}")?)),
-        Unresolved::TooDeep => Ok(NoJobs::Line(String::from_str(alloc, TOO_DEEP)?)),
+        Unresolved::Stopped(stop) => Ok(Failure::Stopped(at_root(alloc, stop)?)),
+        Unresolved::TooDeep => {
+            let line = String::from_str(alloc, TOO_DEEP)?;
+            Ok(Failure::Stopped(Stop::new(ErrorCode::Path, line)))
+        }
         Unresolved::Memory => Err(AllocError),
     }
+}
+
+/// Makes the stop of a path that of a command that writes an archive, which names the option of its root.
+pub fn at_root(alloc: Global, stop: Stop) -> Result<Stop, AllocError> {
+    let mut stop = stop.of_archive();
+    stop.line = format!(in alloc; "--root: {}", stop.line.as_str())?;
+    Ok(stop)
+}
+
+/// Returns one root, with which other arguments are checked where there is none yet.
+pub fn some_root(alloc: Global) -> Result<Vec<Cid>, AllocError> {
+    let mut roots = Vec::with_capacity(alloc, 1)?;
+    if let Ok((cid, _)) = Cid::read(alloc, &SOME_ROOT_BYTES) {
+        roots.push(cid)?;
+    }
+    Ok(roots)
+}
+
+/// Returns clones of roots.
+pub fn clones(alloc: Global, roots: &[Cid]) -> Result<Vec<Cid>, AllocError> {
+    let mut clones = Vec::with_capacity(alloc, roots.len())?;
+    for root in roots {
+        clones.push(root.try_clone(alloc)?)?;
+    }
+    Ok(clones)
 }
 
 /// Returns the CIDs of roots, with commas between them.
@@ -205,7 +218,8 @@ pub fn roots_text(alloc: Global, roots: &[Cid]) -> Result<String, AllocError> {
 }
 
 /// Makes the note that the roots are those in the header of a file.
-pub fn roots_note(alloc: Global, path: &str, roots: &str) -> Result<String, AllocError> {
+pub fn roots_note(alloc: Global, path: &str, roots: &[Cid]) -> Result<String, AllocError> {
+    let roots = roots_text(alloc, roots)?;
     format!(in alloc; "note: the roots are those in the header of {path}: {roots}\n")
 }
 

@@ -7,13 +7,15 @@ ghost use Rattle.ix_run.specs.Run.{CanRun};
 use crate::blocks::LoadedBlocks;
 use crate::prefetching::Prefetching;
 use clap::ArgMatches;
-use ix_cli_io::Progress;
+use ix_cli_io::{
+    ClosingArchives, NamingRule, Output, Progress, WriteErrors, buffers_of, writers_to,
+};
 use ix_jobs::{AllowMissing, JobResult, report_with_absent, separate_absent, status};
 use ix_options::{
-    VERIFIERS, VERIFIERS_4, WALKERS, WALKERS_4, at_most_processors, available_processors,
+    Host, VERIFIERS, VERIFIERS_4, WALKERS, WALKERS_4, at_most_processors, available_processors,
 };
 use ix_pipeline::{Plan, Prefetch};
-use ix_run::{RunFault, RunInput, Unobserved, run_observed};
+use ix_run::{Observer, RunFault, RunInput, Unobserved, run_observed};
 use ix_walk::Job;
 use std::alloc::{AllocError, Global};
 use std::io::Write;
@@ -41,6 +43,15 @@ pub struct ThreadCounts {
     prefetching: Prefetching,
     ghost few_walkers: { (1 ≤ walkers) × (walkers ≤ 64) },
     ghost few_verifiers: { (1 ≤ verifiers) × (verifiers ≤ 64) },
+}
+
+/// Where the archives of a run go, in the order of the jobs, and which of them get their names. The first error
+/// of a write is recorded.
+#[derive(Clone, Copy)]
+pub struct RunOutputs<'a> {
+    pub outputs: &'a [Output],
+    pub errors: &'a WriteErrors,
+    pub rule: NamingRule,
 }
 
 /// What a run leaves besides its archives: the report, the status, and the result of each job.
@@ -136,7 +147,57 @@ impl ThreadCounts {
     ) -> Result<RunReport, RunFault>
         requires { CanRun (arc_value jobs.now).items writers.items }
     {
+        let ran = if progress.is_shown() {
+            progress.begin(jobs.len());
+            self.run_observed(rt, blocks, jobs, writers, progress)
+        } else {
+            self.run_observed(rt, blocks, jobs, writers, &Unobserved)
+        };
+        progress.end();
+        ran
+    }
+
+    /// Runs the jobs as `run` does, writes their archives to these outputs, and gives each its name as its job
+    /// ends, if it gets one. A job whose archive can't be named ends with a failed write.
+    ///
+    /// An error may come after archives have got their names.
+    pub fn run_to<R: Host>(
+        &self,
+        rt: &R,
+        blocks: &LoadedBlocks,
+        jobs: &Arc<Vec<Job>>,
+        archives: RunOutputs<'_>,
+        progress: &Progress<R>,
+    ) -> Result<RunReport, RunFault>
+        requires { CanRun (arc_value jobs.now).items archives.outputs.now }
+    {
         let alloc = rt.alloc();
+        let buffers = buffers_of(alloc, archives.outputs, archives.errors)?;
+        let writers = writers_to(alloc, buffers.as_slice())?;
+        let observer = ClosingArchives {
+            rt,
+            jobs: jobs.as_slice(),
+            rule: archives.rule,
+            buffers: buffers.as_slice(),
+            progress: progress.shown(),
+        };
+        progress.begin(jobs.len());
+        let ran = self.run_observed(rt, blocks, jobs, writers, &observer);
+        progress.end();
+        ran
+    }
+
+    // Runs the jobs with so many threads, and notifies an observer.
+    fn run_observed<R: AllocGlobal + Threads + Wait + Sync, W: Write + Drop, V: Observer>(
+        &self,
+        rt: &R,
+        blocks: &LoadedBlocks,
+        jobs: &Arc<Vec<Job>>,
+        writers: Vec<W>,
+        observer: &V,
+    ) -> Result<RunReport, RunFault>
+        requires { CanRun (arc_value jobs.now).items writers.items }
+    {
         let input = RunInput {
             store: &blocks.store,
             known: blocks.known.as_ref(),
@@ -149,14 +210,7 @@ impl ThreadCounts {
             },
             prefetch: self.prefetch(rt, blocks, jobs.len()),
         };
-        let ran = if progress.is_shown() {
-            progress.begin(jobs.len());
-            run_observed(rt, alloc, input, writers, progress)
-        } else {
-            run_observed(rt, alloc, input, writers, &Unobserved)
-        };
-        progress.end();
-        let out = ran?;
+        let out = run_observed(rt, rt.alloc(), input, writers, observer)?;
         Ok(RunReport {
             report: out.report,
             status: out.status,
