@@ -2,31 +2,32 @@
 
 ghost use Rattle.std.specs.Prelude.{◌≡◌, length, if◌then◌else◌, IfOk};
 ghost use Rattle.std.specs.Arc.{arc_value};
-ghost use Rattle.ix_run.specs.Complete.{is_complete};
+ghost use Rattle.ix_cli_io.specs.Naming.{has_all_asked};
 
-use crate::json_jobs::{file_report, is_to_be_named};
-use crate::skip_paths::{PATHS, Ran};
+use crate::json_jobs::{file_report, part_size};
+use crate::skip_paths::{PATHS, Ran, SkipPaths};
 use clap::ArgMatches;
 use ix_cid::Cid;
 use ix_cli_io::{
-    ANY_SIZE, Failure, Naming, Noted, Output, Progress, ProgressMode, STANDARD_INPUT, WriteErrors,
-    failed_write, met_roots_alone, occupy_std_fds, print_report,
+    ANY_SIZE, ErrorCode, Failure, Naming, Noted, Output, Progress, ProgressMode, STANDARD_INPUT,
+    WriteErrors, check_memory, check_standard_output, failed_write, has_all_asked, met_roots_alone,
+    occupy_std_fds, print_report,
 };
 use ix_job_errors::{job_fault_words, lacks_an_edge};
 use ix_job_line::{JobWords, SelectorWord, jobs_of_words, selector_hex};
 use ix_jobs::{AllowMissing, JobResult};
 use ix_load::{
-    BlockFiles, KnownInputs, LoadedBlocks, NoJobs, Prefetching, RootPaths, RootWords, Roots,
-    RunReport, SCOPE, Scope, ThreadCounts, allowed_missing, forget_store, no_jobs, no_roots,
-    refused_roots, roots_note, roots_text,
+    BlockFiles, Indexed, KnownInputs, LoadedBlocks, Prefetching, RootPaths, RootWords, Roots,
+    RunReport, SCOPE, Scope, ThreadCounts, allowed_missing, clones, forget_store, no_jobs,
+    no_roots, refused_roots, roots_note,
 };
 use ix_options::{
     ALLOW_MISSING, ArgKind, ArgSpec, BLOCKS, CARV2, CommandSpec, Host, JSON, MAX_INPUT, NO_SYNC,
-    PREFER_SOUND, PREFETCH, PROGRESS, QUIET, SYNC, Terminals, VERIFIERS, WALKERS, WITHOUT,
-    WITHOUT_LIST, available_processors, most_input, output_path, print_notes, print_refusal,
+    PREFER_SOUND, PREFETCH, PROGRESS, QUIET, SYNC, Terminals, VERIFIERS, WALKERS, WHOLE, WITHOUT,
+    WITHOUT_LIST, available_processors, most_input, naming, output_path, print_notes,
     progress_mode,
 };
-use ix_run::{RunFault, is_complete};
+use ix_run::RunFault;
 use ix_store::Store;
 use ix_walk::Job;
 use std::alloc::{AllocError, Global};
@@ -43,11 +44,11 @@ const HELP: &str = "Everything reachable from the root, over all links:\n\
 \x20 ix_export get --blocks library.car --out album.car \\\n\
 \x20   --root bafyreif4cx2fmzgnlynimiv5s5pmkhdcciunwtqscgjd2tvhr5yqjh7u4i\n\
 \n\
-A root may have a path, CID/albums/0, also as ipfs://CID/albums/0: its segments\n\
-are keys of maps and indexes of lists, percent-escaped as in URLs, or each in a\n\
---segment. The archive then has the blocks on the path and everything below its\n\
-end, or with --scope block the one in which it ends. Several roots have one path\n\
-in common.\n\
+A root may have a path, CID/albums/0: its segments are keys of maps and indexes\n\
+of lists, percent-escaped as in URLs, or each in a --segment. The archive then\n\
+has the blocks on the path and everything below its end, or with --scope block\n\
+the one in which it ends. Several roots have one path in common. A CID may be in\n\
+any base of multibase, and with its path in a URL, https://HOST/ipfs/CID/albums.\n\
 Without --root the roots are those in the header of the first file, and a line\n\
 on standard error names them.\n\
 \n\
@@ -76,12 +77,14 @@ hashed, and the first that is sound counts, so that damaged replicas make up for
 each other. A line on standard error says how many blocks are a later copy.\n\
 \n\
 The archive is written to FILE.part, which is renamed to FILE if the job is done\n\
-and no root was skipped. It replaces a file with that name. Otherwise it stays\n\
-as FILE.part, FILE stays as it was, and a line on standard error says why. With\n\
---partial it is renamed also if a root was skipped or the job ended with limit.\n\
-It is on the disk before it is renamed, unless --no-sync is given. Without\n\
---out, or with --out -, the archive goes to standard output, which must not be a\n\
-terminal.\n\
+and no root was skipped. It replaces a file with that name; if links were\n\
+skipped, a line on standard error says how many. Otherwise it stays as\n\
+FILE.part, FILE stays as it was, and a line on standard error says why. With\n\
+--whole it is renamed only if nothing was skipped, and else the status is 4.\n\
+With --partial it is renamed also if a root was skipped or the job ended with\n\
+limit. Of --whole, --complete and --partial the last counts. The archive is on\n\
+the disk before it is renamed, unless --no-sync is given. Without --out, or with\n\
+--out -, it goes to standard output, which must not be a terminal.\n\
 \n\
 The report is that of the command `jobs` for one job, `get`, and goes to\n\
 standard error. With --paths each skip ends with its path from the root, as\n\
@@ -90,14 +93,17 @@ recursion of the selector has no edge {\"@\":{}}. With --json the report is JSON
 docs/JSON.md has its keys.\n\
 \n\
 Status: 0 if the job is done and nothing was skipped, 3 if it is done and\n\
-something was skipped below the roots, 4 if it ended otherwise or a root was\n\
-skipped, 2 if the arguments or a file are rejected, with a line on standard\n\
-error that has the cause.";
+something was skipped below the roots, 4 if it ended otherwise, a root was\n\
+skipped or --whole isn't met, 2 if the arguments or a file are rejected, with a\n\
+line on standard error that has the cause.";
+
+// What memory runs out for during the run.
+const RUN: &str = "the traversal";
 
 // The name of the one job in the report.
 const NAME: &str = "get";
 
-// The status of a job that isn't done, or of which a root was skipped.
+// The status of a job that isn't done, or of which a root was skipped, or a link if the archive is to be whole.
 const INCOMPLETE: u8 = 4;
 
 // Notes after the report: the job found nothing below its roots; its selector can't recur.
@@ -131,7 +137,7 @@ const SELECTOR_HEX: ArgSpec = ArgSpec {
 
 const SEGMENT: ArgSpec = ArgSpec {
     name: "segment",
-    given: ArgKind::OptionalMany("NAME"),
+    given: ArgKind::AnyMany("NAME"),
     help: "Segment after ROOT's path; several add up",
 };
 
@@ -161,13 +167,13 @@ const OUT: ArgSpec = ArgSpec {
 
 const COMPLETE: ArgSpec = ArgSpec {
     name: "complete",
-    given: ArgKind::FlagOver("partial"),
+    given: ArgKind::FlagOverBoth("partial", "whole"),
     help: "Rename only if done, no root skipped [default]",
 };
 
 const PARTIAL: ArgSpec = ArgSpec {
     name: "partial",
-    given: ArgKind::FlagOver("complete"),
+    given: ArgKind::FlagOverBoth("complete", "whole"),
     help: "Rename FILE also at the limit or without a root",
 };
 
@@ -202,6 +208,7 @@ pub static SPEC: CommandSpec = CommandSpec {
         MAX_INPUT,
         CARV2,
         PREFER_SOUND,
+        WHOLE,
         COMPLETE,
         PARTIAL,
         SYNC,
@@ -222,21 +229,17 @@ pub fn run<'a, R: Host>(
     terminals: Terminals,
 ) -> Result<u8, Failure> {
     let command = GetCommand::read(rt.alloc(), words, available_processors(rt), terminals)?;
-    let roots = command.roots.text(rt.alloc())?;
-    let jobs = match command.jobs(rt.alloc(), roots.as_str(), &command.selector) {
+    let roots = command.roots.cids(rt.alloc())?;
+    let jobs = match command.jobs(rt.alloc(), roots.as_slice(), &command.selector) {
         Ok(jobs) => jobs,
-        Err(line) => return print_refusal(rt, line),
+        Err(line) => return Err(Failure::stopped(ErrorCode::Job, line)),
     };
     let progress = Progress::new(rt, command.progress);
     let status = match command.load(rt, &progress) {
         Ok((blocks, roots)) => {
             let status = match command.jobs_in(rt, jobs, &blocks.store, roots.as_slice()) {
                 Ok(jobs) => command.export(rt, &blocks, &jobs, &progress),
-                Err(NoJobs::Failure(failure)) => Err(failure),
-                Err(NoJobs::Line(line)) => {
-                    progress.end();
-                    print_refusal(rt, Ok(line))
-                }
+                Err(failure) => Err(failure),
             };
             blocks.print_note(rt, &status);
             forget_store(blocks.store);
@@ -251,7 +254,7 @@ pub fn run<'a, R: Host>(
 // What the arguments choose.
 #[derive(Drop)]
 struct GetCommand<'a> {
-    roots: Roots<'a>,
+    roots: Roots,
     scope: Scope,
     limit: &'a str,
     // The selector from the roots, or from where their path ends.
@@ -308,11 +311,7 @@ impl<'a> GetCommand<'a> {
             allowed,
             path,
             threads: ThreadCounts::by_processors(words, processors, prefetching),
-            naming: if PARTIAL.is_given(words) {
-                Naming::Ended
-            } else {
-                Naming::Complete
-            },
+            naming: naming(words, Naming::Complete),
             is_synced: !NO_SYNC.is_given(words),
             is_quiet: QUIET.is_given(words),
             has_paths: PATHS.is_given(words),
@@ -325,7 +324,7 @@ impl<'a> GetCommand<'a> {
     fn jobs(
         &self,
         alloc: Global,
-        roots: &str,
+        roots: &[Cid],
         selector: &SelectorWord<'_>,
     ) -> Result<Arc<Vec<Job>>, Result<String, AllocError>>
         ensures { IfOk result (λ jobs. length (arc_value jobs).items ≡ 1) }
@@ -354,7 +353,7 @@ impl<'a> GetCommand<'a> {
         jobs: Arc<Vec<Job>>,
         store: &Store,
         roots: &[Cid],
-    ) -> Result<Arc<Vec<Job>>, NoJobs>
+    ) -> Result<Arc<Vec<Job>>, Failure>
         requires { length (arc_value jobs).items ≡ 1 }
         ensures { IfOk result (λ jobs. length (arc_value jobs).items ≡ 1) }
     {
@@ -368,9 +367,9 @@ impl<'a> GetCommand<'a> {
             Some(hex) => SelectorWord::Hex(hex.as_str()),
             None => self.selector,
         };
-        match self.jobs(alloc, chosen.roots.as_str(), &selector) {
+        match self.jobs(alloc, chosen.roots.as_slice(), &selector) {
             Ok(jobs) => {
-                self.print_roots(rt, chosen.roots.as_str());
+                self.print_roots(rt, chosen.roots.as_slice());
                 Ok(jobs)
             }
             Err(line) => Err(self.refused(alloc, line)?),
@@ -378,13 +377,12 @@ impl<'a> GetCommand<'a> {
     }
 
     // Returns the words for the roots in the header of the first file.
-    fn header_words(&self, alloc: Global, roots: &[Cid]) -> Result<RootWords, NoJobs> {
+    fn header_words(&self, alloc: Global, roots: &[Cid]) -> Result<RootWords, Failure> {
         if roots.is_empty() {
-            let error = no_roots(alloc, &SPEC, self.first_path())?;
-            return Err(NoJobs::Failure(Failure::from(error)));
+            return Err(Failure::from(no_roots(alloc, &SPEC, self.first_path())?));
         }
         Ok(RootWords {
-            roots: roots_text(alloc, roots)?,
+            roots: clones(alloc, roots)?,
             hex: None,
         })
     }
@@ -395,14 +393,14 @@ impl<'a> GetCommand<'a> {
         alloc: Global,
         store: &Store,
         paths: &RootPaths,
-    ) -> Result<RootWords, NoJobs> {
+    ) -> Result<RootWords, Failure> {
         // The selector was read before the files were.
         let Ok(inner) = selector_hex(alloc, &self.selector) else {
-            return Err(NoJobs::from(AllocError));
+            return Err(Failure::from(AllocError));
         };
         match paths.selector_hex(alloc, store, &self.selector, inner.trim_end()) {
             Ok(hex) => Ok(RootWords {
-                roots: paths.roots_text(alloc)?,
+                roots: paths.cids(alloc)?,
                 hex: Some(hex),
             }),
             Err(unresolved) => Err(no_jobs(alloc, unresolved)?),
@@ -418,7 +416,7 @@ impl<'a> GetCommand<'a> {
     }
 
     // Prints which roots those in the header are, unless it is to be quiet.
-    fn print_roots<R: AllocGlobal + Eprint>(&self, rt: &R, roots: &str) {
+    fn print_roots<R: AllocGlobal + Eprint>(&self, rt: &R, roots: &[Cid]) {
         if matches!(&self.roots, Roots::Header) && !self.is_quiet {
             print_notes(rt, roots_note(rt.alloc(), self.first_path(), roots));
         }
@@ -429,12 +427,12 @@ impl<'a> GetCommand<'a> {
         &self,
         alloc: Global,
         line: Result<String, AllocError>,
-    ) -> Result<NoJobs, AllocError> {
+    ) -> Result<Failure, AllocError> {
         if !matches!(&self.roots, Roots::Header) {
-            return Ok(NoJobs::Line(line?));
+            return Ok(Failure::stopped(ErrorCode::Job, line));
         }
         let error = refused_roots(alloc, &SPEC, self.first_path(), line?.as_str())?;
-        Ok(NoJobs::Failure(Failure::from(error)))
+        Ok(Failure::from(error))
     }
 
     // Loads the blocks, and finds those that the receiver has. Returns the roots in the header of the first
@@ -445,13 +443,16 @@ impl<'a> GetCommand<'a> {
         progress: &Progress<R>,
     ) -> Result<(LoadedBlocks, Vec<Cid>), Failure> {
         let loaders = self.threads.loaders(rt);
+        check_memory(rt, self.known.inputs(rt.alloc(), &self.blocks)?.as_slice())?;
         let files = self.blocks.read(rt, loaders, progress)?;
         let roots = match self.roots {
             Roots::Header => self.blocks.header_roots(rt.alloc(), files.as_slice())?,
             _ => Vec::new(rt.alloc()),
         };
         let base_files = self.known.read(rt, &self.blocks, loaders, progress);
-        let mut blocks = self.blocks.store_of(rt, files, loaders)?;
+        let mut blocks = self
+            .blocks
+            .store_of(rt, files, loaders, Indexed::Prefetched)?;
         self.known.add_to(rt, &mut blocks, base_files?, loaders)?;
         Ok((blocks, roots))
     }
@@ -470,7 +471,9 @@ impl<'a> GetCommand<'a> {
     {
         let _streams = occupy_std_fds(rt)?;
         let errors = WriteErrors::new();
+        let inputs = self.known.inputs(rt.alloc(), &self.blocks)?;
         let Some(path) = self.path else {
+            check_standard_output(rt, inputs.as_slice())?;
             let writer = Noted::new(io::writer(rt), &errors).buffered(rt.alloc());
             return match self.write(rt, blocks, jobs, writer, progress) {
                 Ok(ran) => {
@@ -488,7 +491,6 @@ impl<'a> GetCommand<'a> {
                 Err(fault) => Err(refusal(rt, "-", fault, &errors)),
             };
         };
-        let inputs = self.known.inputs(rt.alloc(), &self.blocks)?;
         let output = Output::create(rt, path, inputs.as_slice(), self.is_synced)?;
         let writer = output.writer(rt.alloc(), &errors);
         match self.write(rt, blocks, jobs, writer, progress) {
@@ -538,30 +540,26 @@ impl<'a> GetCommand<'a> {
         ran: &Ran<'_>,
         errors: &WriteErrors,
     ) -> Result<u8, Failure> {
-        let published = match ran.first() {
-            Some((job, told)) => output.publish(rt, job, told, self.naming),
-            _ => Ok(None),
+        let Some((job, told)) = ran.first() else {
+            output.discard(rt);
+            return Ok(INCOMPLETE);
         };
-        if let Ok(Some(left)) = &published {
-            let _ = rt.eprint(left.as_str());
-        }
-        let is_named = published.is_ok() && self.is_to_be_named(ran);
+        let published = output.publish(rt, job, told, self.naming);
+        let is_named = match &published {
+            Ok(published) => {
+                print_note(rt, &published.note);
+                published.is_named
+            }
+            Err(_) => false,
+        };
         let archive = Archive { path, is_named };
         let status = self.print_outcome(rt, archive, ran, errors);
         published.map(|_| status)
     }
 
-    // Returns whether the archive is to get its name.
-    fn is_to_be_named(&self, ran: &Ran<'_>) -> bool {
-        match ran.first() {
-            Some((job, told)) => is_to_be_named(self.naming, job, told),
-            _ => false,
-        }
-    }
-
     // Prints the report and its notes to standard error, and returns the status. If standard error can't
     // be written, or memory runs out, there is no one to report to.
-    fn print_outcome<R: AllocGlobal + Eprint>(
+    fn print_outcome<R: AllocGlobal + Eprint + Files>(
         &self,
         rt: &R,
         archive: Archive<'_>,
@@ -571,7 +569,7 @@ impl<'a> GetCommand<'a> {
         let Some((job, told)) = ran.first() else {
             return INCOMPLETE;
         };
-        let status = status_of(job, told, ran.report.status);
+        let status = status_of(self.naming, job, told, ran.report.status);
         print_notes(rt, failed_write(rt.alloc(), archive.path, told, errors));
         if status != 0 || !self.is_quiet {
             self.print_run(rt, archive, ran);
@@ -586,7 +584,12 @@ impl<'a> GetCommand<'a> {
     }
 
     // Prints the report of a run to standard error, as text or as JSON.
-    fn print_run<R: AllocGlobal + Eprint>(&self, rt: &R, archive: Archive<'_>, ran: &Ran<'_>) {
+    fn print_run<R: AllocGlobal + Eprint + Files>(
+        &self,
+        rt: &R,
+        archive: Archive<'_>,
+        ran: &Ran<'_>,
+    ) {
         if !self.is_json {
             match ran.text(rt, self.has_paths) {
                 Some(text) => print_report(rt, text.as_bytes()),
@@ -596,10 +599,22 @@ impl<'a> GetCommand<'a> {
         }
         let alloc = rt.alloc();
         let Archive { path, is_named } = archive;
-        let report = ran.made(rt, self.has_paths, |paths| {
-            file_report(alloc, path, is_named, ran, paths)
-        });
-        if let Ok(report) = report {
+        let size = if is_named {
+            None
+        } else {
+            part_size(rt, path).ok()
+        };
+        // If memory runs out for the paths, the report is printed without.
+        if self.has_paths {
+            if let Ok(paths) = ran.traced(alloc)
+                && let Ok(report) = file_report(alloc, path, size, ran, &paths)
+            {
+                print_report(rt, report.as_slice());
+                return;
+            }
+            ran.note_no_paths(rt);
+        }
+        if let Ok(report) = file_report(alloc, path, size, ran, &SkipPaths::none(alloc)) {
             print_report(rt, report.as_slice());
         }
     }
@@ -635,23 +650,35 @@ fn limit_of<'a>(words: &ArgMatches<'a>) -> &'a str {
 }
 
 // Maps an error of the run: an archive that can't be started is an output that can't be written.
-fn refusal<R: AllocGlobal>(rt: &R, path: &str, fault: RunFault, errors: &WriteErrors) -> Failure {
+fn refusal<R: AllocGlobal + Files>(
+    rt: &R,
+    path: &str,
+    fault: RunFault,
+    errors: &WriteErrors,
+) -> Failure {
     match fault {
         RunFault::Write(_) => {
             let unknown = io::Error::from(ErrorKind::WriteZero);
             let error = errors.first().unwrap_or(unknown);
             Failure::cannot_write(rt.alloc(), path, &error)
         }
-        fault => Failure::from(fault),
+        fault => Failure::from(fault).at(rt, RUN),
     }
 }
 
-// Returns the status: `INCOMPLETE` if the job isn't done or a root was skipped, else that of the
-// report.
-fn status_of(job: &Job, told: &JobResult, status: u8) -> u8
-    ensures { result ≡ (if is_complete job.now told.now then status else 4) }
+// Prints a note on an output to standard error, if there is one.
+fn print_note<R: Eprint>(rt: &R, note: &Option<String>) {
+    if let Some(note) = note {
+        let _ = rt.eprint(note.as_str());
+    }
+}
+
+// Returns the status: `INCOMPLETE` if the archive lacks what it should have by how it is named, else that of
+// the report.
+fn status_of(naming: Naming, job: &Job, told: &JobResult, status: u8) -> u8
+    ensures { result ≡ (if has_all_asked naming job.now told.now then status else 4) }
 {
-    if is_complete(job, told) {
+    if has_all_asked(naming, job, told) {
         status
     } else {
         INCOMPLETE

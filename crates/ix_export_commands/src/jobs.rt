@@ -5,33 +5,30 @@ ghost use Rattle.std.specs.Arc.{arc_value};
 ghost use Rattle.ix_walk.specs.JobMeaning.{AreFew};
 ghost use Rattle.ix_run.specs.Run.{CanRun};
 
-use crate::json_jobs::{ArchiveFolder, folder_report};
-use crate::skip_paths::{PATHS, Ran};
+use crate::json_jobs::{ArchiveFolder, folder_report, part_sizes};
+use crate::skip_paths::{PATHS, Ran, SkipPaths};
 use clap::ArgMatches;
-use clap::error::ErrorKind;
 use ix_cli_io::{
-    Failure, LARGEST_INPUT, Naming, Output, Progress, ProgressMode, STANDARD_INPUT, WriteErrors,
-    discard_outputs, failed_writes, make_outputs, occupy_std_fds, publish_outputs, read_input,
-    writers_to,
+    Failure, LARGEST_INPUT, Naming, NamingRule, Output, Progress, ProgressMode, STANDARD_INPUT,
+    WriteErrors, check_memory, discard_outputs, failed_writes, has_all_asked, make_outputs,
+    occupy_std_fds, publish_outputs, read_input, without_archived,
 };
-use ix_jobs::{AllowMissing, Part};
+use ix_jobs::AllowMissing;
 use ix_load::{
-    BlockFiles, KnownInputs, LoadedBlocks, Prefetching, RunReport, ThreadCounts, allowed_missing,
-    forget_store, refused_inputs,
+    BlockFiles, Indexed, KnownInputs, LoadedBlocks, PART, Prefetching, RunOutputs, RunReport,
+    ThreadCounts, allowed_missing, forget_store, given_part, refused_inputs,
 };
 use ix_options::{
     ALLOW_MISSING, ArgKind, ArgSpec, BLOCKS, CARV2, CommandSpec, Host, JSON, MAX_INPUT_1G,
-    MAX_LIMIT, PREFER_SOUND, PREFETCH, PROGRESS, QUIET, VERBOSE, VERIFIERS_4, WALKERS_4, WITHOUT,
-    WITHOUT_LIST, most_input, print_all, print_notes, progress_mode,
+    MAX_LIMIT, PREFER_SOUND, PREFETCH, PROGRESS, QUIET, VERBOSE, VERIFIERS_4, WALKERS_4, WHOLE,
+    WITHOUT, WITHOUT_LIST, most_input, naming, print_all, print_notes, progress_mode,
 };
 use ix_run::{JobChoice, RunFault, load_jobs};
 use ix_walk::Job;
 use std::alloc::{AllocError, Global};
 use std::fs::File;
-use std::io::Write;
-use std::rt::{Clock, Files};
-use std::sync::{Arc, Wait};
-use std::thread::Threads;
+use std::rt::Files;
+use std::sync::Arc;
 
 const ABOUT: &str = "Export an archive for each job of a job file, and print a report";
 
@@ -58,10 +55,10 @@ part; it may have 1000000 jobs, and a part 1000.\n\
 A job has one archive, whose header names its roots in their order, and which\n\
 has each block once.\n\
 \n\
-The archive of a job is written to DIR/NAME.car.part. When the run has ended it\n\
-is renamed to DIR/NAME.car if its job ended with done or limit, and replaces a\n\
-file with that name; otherwise DIR/NAME.car stays as it was. DIR must exist. As\n\
-many files are open at once as there are jobs. The report on standard output has\n\
+The archive of a job is written to DIR/NAME.car.part. Soon after its job ended\n\
+with done or limit it is renamed to DIR/NAME.car, and replaces a file with that\n\
+name; otherwise DIR/NAME.car stays as it was. DIR must exist. As many files are\n\
+open at once as there are jobs. At the end the report on standard output has\n\
 a line for each job, how it ended (done, limit, memory, write, start) and its\n\
 counts, then a line for each link that was skipped (codec, hash, missing,\n\
 damaged, malformed), and at last the totals; with --json it is JSON, whose keys\n\
@@ -70,6 +67,11 @@ root, as `show` takes it. Links of other codecs than raw and\n\
 DAG-CBOR and of other hashes than SHA-256, SHA-512 and identity are skipped;\n\
 UnixFS isn't read. The digest of an identity CID is the block itself: links\n\
 inside it are followed, and it has no block in the archive.\n\
+\n\
+With --resume each job is left out whose DIR/NAME.car is a regular file that\n\
+begins with the header of its archive: what a run that was stopped had named. A\n\
+line on standard error says how many. It can't see whether such an archive is\n\
+of the same blocks and options, so give each set of archives a folder.\n\
 \n\
 With --once a job expands a block at its first visit with the same residual\n\
 selector, and only if the block is sound. Later visits count, with nothing below\n\
@@ -94,9 +96,11 @@ hashed, and the first that is sound counts, so that damaged replicas make up for
 each other. A line on standard error says how many blocks are a later copy.\n\
 \n\
 With --complete only the archives of jobs that are done, with no root skipped,\n\
-are renamed; the others stay as .part, and a line on standard error says why.\n\
-Without it a file may be replaced by an archive that lacks something; a line on\n\
-standard error warns of that.\n\
+are renamed, and with --whole those of which no link was skipped either: the\n\
+others stay as .part, a line on standard error says why, and with --whole the\n\
+status is 4. Of --whole, --complete and --partial the last counts. An archive\n\
+that lacks something may replace a file; a line on standard error says how many\n\
+links were skipped. For backups give --whole --sync.\n\
 \n\
 With --sync each archive is on the disk before its job counts as done: a disk\n\
 that is full or fails only then ends the job with write.\n\
@@ -106,9 +110,12 @@ visits and of bytes written. On a terminal it rewrites one line (the default for
 runs over two seconds); otherwise it prints at most one line per second.\n\
 \n\
 Status: 0 if every job is done and nothing was skipped, 3 if every job is done\n\
-and something was skipped, 4 if a job ended otherwise, 2 if the arguments or a\n\
-file are rejected, with a line on standard error, and with --verbose the cause\n\
-on another.";
+and something was skipped, 4 if a job ended otherwise or --whole isn't met, 2 if\n\
+the arguments or a file are rejected, with a line on standard error, and with\n\
+--verbose the cause on another.";
+
+// The status if an archive isn't whole that has to be.
+const NOT_WHOLE: u8 = 4;
 
 const JOBS: ArgSpec = ArgSpec {
     name: "jobs",
@@ -122,10 +129,10 @@ const OUT: ArgSpec = ArgSpec {
     help: "Directory for the archives; it must exist",
 };
 
-const PART: ArgSpec = ArgSpec {
-    name: "part",
-    given: ArgKind::Optional("K/N"),
-    help: "Run the K-th of N parts, with N up to 1000000",
+const RESUME: ArgSpec = ArgSpec {
+    name: "resume",
+    given: ArgKind::Flag,
+    help: "Leave out jobs whose archives are in DIR",
 };
 
 const ONCE: ArgSpec = ArgSpec {
@@ -154,13 +161,13 @@ const NO_SYNC: ArgSpec = ArgSpec {
 
 const COMPLETE: ArgSpec = ArgSpec {
     name: "complete",
-    given: ArgKind::FlagOver("partial"),
+    given: ArgKind::FlagOverBoth("partial", "whole"),
     help: "Rename only if done, no root skipped",
 };
 
 const PARTIAL: ArgSpec = ArgSpec {
     name: "partial",
-    given: ArgKind::FlagOver("complete"),
+    given: ArgKind::FlagOverBoth("complete", "whole"),
     help: "Rename archives of done and of limit [default]",
 };
 
@@ -174,6 +181,7 @@ pub static SPEC: CommandSpec = CommandSpec {
         JOBS,
         OUT,
         PART,
+        RESUME,
         WITHOUT,
         WITHOUT_LIST,
         ALLOW_MISSING,
@@ -186,6 +194,7 @@ pub static SPEC: CommandSpec = CommandSpec {
         PREFER_SOUND,
         ONCE,
         EVERY_ARRIVAL,
+        WHOLE,
         COMPLETE,
         PARTIAL,
         SYNC,
@@ -204,16 +213,25 @@ pub fn run<'a, R: Host>(rt: &R, words: &ArgMatches<'a>, is_terminal: bool) -> Re
     let command = JobsCommand::read(rt.alloc(), words, is_terminal)?;
     let progress = Progress::new(rt, command.progress);
     let status = match command.load(rt, &progress) {
-        Ok((blocks, jobs)) => {
-            let status = command.export(rt, &blocks, &jobs, &progress);
-            blocks.print_note(rt, &status);
-            forget_store(blocks.store);
+        Ok(loaded) => {
+            let status = command.export(rt, &loaded, &progress);
+            loaded.blocks.print_note(rt, &status);
+            forget_store(loaded.blocks.store);
             status
         }
         Err(failure) => Err(failure),
     };
     progress.end();
     status
+}
+
+// What is exported.
+#[derive(Drop)]
+struct Loaded {
+    blocks: LoadedBlocks,
+    jobs: Arc<Vec<Job>>,
+    // How many jobs were left out, since their archives are there.
+    left_out: usize,
 }
 
 // What the arguments choose.
@@ -224,11 +242,14 @@ struct JobsCommand<'a> {
     known: KnownInputs<'a>,
     // Which blocks may be missing.
     allowed: Option<AllowMissing>,
-    // The path of the job file, and how many bytes it may have.
+    // The path of the job file, the part of it that is asked for, and how many bytes an input may have.
     job_file: &'a str,
+    part: Option<&'a str>,
     most: u64,
     folder: &'a str,
     choice: JobChoice,
+    // Whether jobs are left out whose archives are there.
+    is_resumed: bool,
     threads: ThreadCounts,
     is_synced: bool,
     naming: Naming,
@@ -246,7 +267,7 @@ impl<'a> JobsCommand<'a> {
         words: &ArgMatches<'a>,
         is_terminal: bool,
     ) -> Result<JobsCommand<'a>, Failure> {
-        let part = part_of(alloc, words)?;
+        let part = given_part(alloc, &SPEC, words)?;
         let most = most_input(alloc, &SPEC, words, LARGEST_INPUT)?;
         let blocks = BlockFiles::given(alloc, &SPEC, words, most, CARV2.is_given(words))?;
         let known = KnownInputs::given(alloc, &SPEC, words, &blocks)?;
@@ -262,16 +283,12 @@ impl<'a> JobsCommand<'a> {
         if folder.is_empty() {
             return Err(Failure::from(SPEC.refused_value(alloc, "--out <DIR>")?));
         }
-        let naming = if COMPLETE.is_given(words) {
-            Naming::Complete
-        } else {
-            Naming::Ended
-        };
         Ok(JobsCommand {
             blocks,
             known,
             allowed,
             job_file,
+            part: PART.optional_text(words),
             most,
             folder,
             choice: JobChoice {
@@ -279,9 +296,10 @@ impl<'a> JobsCommand<'a> {
                 greatest_limit: MAX_LIMIT.limit(words),
                 once: ONCE.is_given(words),
             },
+            is_resumed: RESUME.is_given(words),
             threads: ThreadCounts::given(words, prefetching),
             is_synced: SYNC.is_given(words),
-            naming,
+            naming: naming(words, Naming::Ended),
             is_quiet: QUIET.is_given(words),
             has_paths: PATHS.is_given(words),
             is_json: JSON.is_given(words),
@@ -291,21 +309,27 @@ impl<'a> JobsCommand<'a> {
 
     // Loads the block files and the chosen jobs of the job file. All files are read before the first is
     // looked at.
-    fn load<R: Host>(
-        &self,
-        rt: &R,
-        progress: &Progress<R>,
-    ) -> Result<(LoadedBlocks, Arc<Vec<Job>>), Failure>
-        ensures { IfOk result (λ loaded. AreFew (arc_value loaded.1).items) }
+    fn load<R: Host>(&self, rt: &R, progress: &Progress<R>) -> Result<Loaded, Failure>
+        ensures { IfOk result (λ loaded. AreFew (arc_value loaded.jobs).items) }
     {
         let loaders = self.threads.loaders(rt);
+        check_memory(rt, self.inputs(rt.alloc())?.as_slice())?;
         let files = self.blocks.read(rt, loaders, progress)?;
         let job_file = read_input(rt, self.job_file, self.most)?;
         let base_files = self.known.read(rt, &self.blocks, loaders, progress);
-        let mut blocks = self.blocks.store_of(rt, files, loaders)?;
+        let mut blocks = self.blocks.store_of(rt, files, loaders, Indexed::Alone)?;
         let jobs = load_jobs(rt.alloc(), job_file.as_slice(), self.choice)?;
         self.known.add_to(rt, &mut blocks, base_files?, loaders)?;
-        Ok((blocks, Arc::new(rt.alloc(), jobs)?))
+        let (jobs, left_out) = if self.is_resumed {
+            without_archived(rt, self.folder, jobs)
+        } else {
+            (jobs, 0)
+        };
+        Ok(Loaded {
+            blocks,
+            jobs: Arc::new(rt.alloc(), jobs)?,
+            left_out,
+        })
     }
 
     // Returns the paths of all inputs.
@@ -321,12 +345,16 @@ impl<'a> JobsCommand<'a> {
     fn export<R: Host>(
         &self,
         rt: &R,
-        blocks: &LoadedBlocks,
-        jobs: &Arc<Vec<Job>>,
+        loaded: &Loaded,
         progress: &Progress<R>,
     ) -> Result<u8, Failure>
-        requires { AreFew (arc_value jobs.now).items }
+        requires { AreFew (arc_value loaded.now.jobs).items }
     {
+        let Loaded {
+            blocks,
+            jobs,
+            left_out,
+        } = loaded;
         let _streams = occupy_std_fds(rt)?;
         let errors = WriteErrors::new();
         let inputs = self.inputs(rt.alloc())?;
@@ -337,18 +365,24 @@ impl<'a> JobsCommand<'a> {
             inputs.as_slice(),
             self.is_synced,
         )?;
-        let ran = match writers_to(rt.alloc(), outputs.as_slice(), &errors) {
-            Ok(writers) => self.write(rt, blocks, jobs, writers, progress),
-            Err(error) => Err(RunFault::from(error)),
+        let archives = RunOutputs {
+            outputs: outputs.as_slice(),
+            errors: &errors,
+            rule: NamingRule {
+                naming: self.naming,
+                allowed: self.allowed,
+            },
         };
-        match ran {
+        match self.write(rt, blocks, jobs, archives, progress) {
             Ok(ran) => {
                 let ran = Ran {
                     store: &blocks.store,
                     jobs: jobs.as_slice(),
                     report: &ran,
                 };
-                self.publish(rt, outputs, &ran, &errors)
+                let status = self.publish(rt, outputs, &ran, &errors)?;
+                print_notes(rt, self.note_on_jobs(rt.alloc(), jobs.len(), *left_out));
+                Ok(status)
             }
             Err(fault) => {
                 discard_outputs(rt, outputs);
@@ -357,18 +391,18 @@ impl<'a> JobsCommand<'a> {
         }
     }
 
-    // Runs the jobs, which are written to these writers.
-    fn write<R: AllocGlobal + Clock + Eprint + Threads + Wait + Sync, W: Write + Drop>(
+    // Runs the jobs, whose archives go to these outputs.
+    fn write<R: Host>(
         &self,
         rt: &R,
         blocks: &LoadedBlocks,
         jobs: &Arc<Vec<Job>>,
-        writers: Vec<W>,
+        archives: RunOutputs<'_>,
         progress: &Progress<R>,
     ) -> Result<RunReport, RunFault>
-        requires { CanRun (arc_value jobs.now).items writers.items }
+        requires { CanRun (arc_value jobs.now).items archives.outputs.now }
     {
-        let ran = self.threads.run(rt, blocks, jobs, writers, progress)?;
+        let ran = self.threads.run_to(rt, blocks, jobs, archives, progress)?;
         Ok(ran.allowing(rt.alloc(), self.allowed, jobs.as_slice())?)
     }
 
@@ -390,12 +424,46 @@ impl<'a> JobsCommand<'a> {
             rt,
             failed_writes(rt.alloc(), self.folder, jobs, results, errors),
         );
-        Ok(ran.report.status)
+        Ok(self.status_of(ran))
+    }
+
+    // Returns the status of a run: that of the report, unless an archive isn't whole that has to be.
+    fn status_of(&self, ran: &Ran<'_>) -> u8 {
+        let mut results = ran.jobs.iter().zip(&ran.report.results);
+        let is_whole = results.all(|(job, told)| has_all_asked(self.naming, job, told));
+        if self.naming == Naming::Whole && !is_whole {
+            NOT_WHOLE
+        } else {
+            ran.report.status
+        }
+    }
+
+    // Returns the note on how many jobs were left out, or that there is none, in the job file or in the part of
+    // it that is asked for.
+    fn note_on_jobs(
+        &self,
+        alloc: Global,
+        jobs: usize,
+        left_out: usize,
+    ) -> Result<String, AllocError> {
+        let path = self.job_file;
+        match (jobs, left_out, self.part) {
+            (0, 0, None) => format!(in alloc; "note: {path} has no job\n"),
+            (0, 0, Some(part)) => format!(in alloc; "note: part {part} of {path} has no job\n"),
+            (_, 0, _) => Ok(String::new(alloc)),
+            (_, 1, _) => String::from_str(
+                alloc,
+                "note: 1 job was left out: its archive is there\n",
+            ),
+            (_, more, _) => format!(in alloc;
+                "note: {more} jobs were left out: their archives are there\n"
+            ),
+        }
     }
 
     // Prints the report of a run whose outputs were published, as text or as JSON, unless it is to be quiet
     // and the status is 0. If a rename failed, not all are named that should be.
-    fn print_run<R: AllocGlobal + Eprint + Print>(
+    fn print_run<R: AllocGlobal + Eprint + Files + Print>(
         &self,
         rt: &R,
         ran: &Ran<'_>,
@@ -415,35 +483,18 @@ impl<'a> JobsCommand<'a> {
             path: self.folder,
             naming: self.naming,
             are_named,
+            part_sizes: part_sizes(rt, self.folder, ran.jobs)?,
         };
-        let report = ran.made(rt, self.has_paths, |paths| {
-            folder_report(alloc, &folder, ran, paths)
-        })?;
+        // If memory runs out for the paths, the report is printed without.
+        if self.has_paths {
+            if let Ok(paths) = ran.traced(alloc)
+                && let Ok(report) = folder_report(alloc, &folder, ran, &paths)
+            {
+                return print_all(rt, report.as_slice());
+            }
+            ran.note_no_paths(rt);
+        }
+        let report = folder_report(alloc, &folder, ran, &SkipPaths::none(alloc))?;
         print_all(rt, report.as_slice())
     }
-}
-
-// Returns the part of the job file that is asked for, or None for the whole file.
-fn part_of<'a>(alloc: Global, words: &ArgMatches<'a>) -> Result<Option<Part>, clap::Error> {
-    let Some(text) = PART.optional_text(words) else {
-        return Ok(None);
-    };
-    match part_in(text) {
-        Some(part) => Ok(Some(part)),
-        None => Err(refused_part(alloc, text)?),
-    }
-}
-
-// Parses a part, K/N.
-fn part_in(text: &str) -> Option<Part> {
-    let (number, of) = text.split_once('/')?;
-    Part::new(number.parse().ok()?, of.parse().ok()?)
-}
-
-// Makes the error for a text that isn't a part.
-fn refused_part(alloc: Global, text: &str) -> Result<clap::Error, AllocError> {
-    let message = format!(in alloc;
-        "invalid value '{text}' for '--part <K/N>': K is from 1 to N, and N from 1 to 1000000"
-    )?;
-    SPEC.refusal(alloc, ErrorKind::ValueValidation, message.as_str())
 }

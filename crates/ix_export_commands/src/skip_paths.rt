@@ -1,11 +1,13 @@
 //! The option `--paths`: each skip with the path of its visit.
 
 use ix_jobs::JobResult;
-use ix_json_report::SkipNotes;
+use ix_json_report::{SkipCause, SkipNotes};
 use ix_load::RunReport;
 use ix_options::{ArgKind, ArgSpec};
+use ix_path::{cause_word, malformed_fault};
 use ix_store::Store;
 use ix_trace::{trace, with_paths};
+use ix_verdict::Verdict;
 use ix_walk::Job;
 use std::alloc::{AllocError, Global};
 use std::str;
@@ -28,10 +30,11 @@ pub(crate) struct Ran<'a> {
     pub report: &'a RunReport,
 }
 
-/// The paths of the skips of each job, in their order, or none.
+/// The paths of the skips of each job, in their order, and why their bytes are malformed, or none.
 #[derive(Drop)]
 pub(crate) struct SkipPaths {
     each: Vec<Vec<Option<String>>>,
+    causes: Vec<Vec<Option<SkipCause<'static>>>>,
 }
 
 impl SkipPaths {
@@ -40,6 +43,22 @@ impl SkipPaths {
         match self.each.get(number) {
             Some(paths) => paths.as_slice(),
             None => &[],
+        }
+    }
+
+    // Returns why the bytes of the skips of the job of this number are malformed.
+    fn causes_of_job(&self, number: usize) -> &[Option<SkipCause<'static>>] {
+        match self.causes.get(number) {
+            Some(causes) => causes.as_slice(),
+            None => &[],
+        }
+    }
+
+    /// Returns none.
+    pub(crate) fn none(alloc: Global) -> SkipPaths {
+        SkipPaths {
+            each: Vec::new(alloc),
+            causes: Vec::new(alloc),
         }
     }
 }
@@ -55,6 +74,7 @@ impl<'a> Ran<'a> {
         SkipNotes {
             absent: self.report.absent_of(number),
             paths: paths.of_job(number),
+            causes: paths.causes_of_job(number),
         }
     }
 
@@ -67,7 +87,7 @@ impl<'a> Ran<'a> {
         match self.text_with_paths(rt.alloc()) {
             Ok(text) => Some(text),
             Err(_) => {
-                let _ = rt.eprintln(NO_PATHS);
+                self.note_no_paths(rt);
                 None
             }
         }
@@ -84,43 +104,46 @@ impl<'a> Ran<'a> {
         with_paths(alloc, report, all.as_slice())
     }
 
-    /// Makes a report in which each skip has its path, if that is asked for. If memory runs out for it, a
-    /// line on standard error says so, and the report is made without.
-    pub(crate) fn made<R: AllocGlobal + Eprint, F>(
-        &self,
-        rt: &R,
-        are_asked: bool,
-        make: F,
-    ) -> Result<Vec<u8>, AllocError>
-    where
-        F: Fn(&SkipPaths) -> Result<Vec<u8>, AllocError>,
-        requires { F.IsAlwaysCallable make }
-    {
-        if are_asked {
-            if let Ok(paths) = self.traced(rt.alloc())
-                && let Ok(report) = make(&paths)
-            {
-                return Ok(report);
-            }
-            let _ = rt.eprintln(NO_PATHS);
-        }
-        make(&SkipPaths {
-            each: Vec::new(rt.alloc()),
-        })
+    /// Says on standard error that memory ran out for paths.
+    pub(crate) fn note_no_paths<R: Eprint>(&self, rt: &R) {
+        let _ = rt.eprintln(NO_PATHS);
     }
 
-    // Returns the paths of the skips of each job.
-    fn traced(&self, alloc: Global) -> Result<SkipPaths, AllocError> {
+    /// Returns the paths of the skips of each job, and why their bytes are malformed.
+    pub(crate) fn traced(&self, alloc: Global) -> Result<SkipPaths, AllocError> {
         let mut each = Vec::with_capacity(alloc, self.jobs.len())?;
+        let mut causes = Vec::with_capacity(alloc, self.jobs.len())?;
         for (job, outcome) in self.jobs.iter().zip(&self.report.results) {
             let numbers = numbers_of(alloc, outcome)?;
             let mut paths = trace(alloc, self.store, job, numbers.as_slice())?;
             // Each visit was made before, so there is a path for each.
             paths.resize_with(numbers.len(), || None)?;
             each.push(paths)?;
+            causes.push(causes_in(alloc, self.store, outcome)?)?;
         }
-        Ok(SkipPaths { each })
+        Ok(SkipPaths { each, causes })
     }
+}
+
+// Returns why the bytes of skips are malformed, in their order.
+fn causes_in(
+    alloc: Global,
+    store: &Store,
+    outcome: &JobResult,
+) -> Result<Vec<Option<SkipCause<'static>>>, AllocError> {
+    let mut causes = Vec::with_capacity(alloc, outcome.skips.len())?;
+    for skip in &outcome.skips {
+        let fault = if skip.verdict == Verdict::Malformed {
+            malformed_fault(store, &skip.cid)
+        } else {
+            None
+        };
+        causes.push(fault.map(|fault| SkipCause {
+            words: cause_word(fault.kind),
+            offset: fault.place as u64,
+        }))?;
+    }
+    Ok(causes)
 }
 
 // Returns the numbers of the visits that were skipped.
