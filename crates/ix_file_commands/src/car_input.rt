@@ -1,12 +1,12 @@
 //! The CARv1 file in an input, and why one is rejected.
 
 use ix_car::{CarFault, payload_of};
-use ix_cli_io::{Causes, Failure, Progress, REFUSED, load_input};
+use ix_cli_io::{Failure, Progress, Stop, load_input};
 use ix_inspect::{Kind, kind_of};
 use ix_options::cause_of;
 use ix_run::RunFault;
 use ix_verify::CarBytes;
-use std::alloc::AllocError;
+use std::alloc::{AllocError, Global};
 use std::fs::File;
 use std::rt::{Clock, Files};
 use std::thread::Threads;
@@ -92,8 +92,8 @@ pub(crate) enum Rejection<'a> {
     Failure(Failure),
     /// An error in the file with this path, and its cause.
     Car(&'a str, CarFault, &'static str),
-    /// The file with this path doesn't have the path that is asked for, as this line says.
-    NoPath(&'a str, String),
+    /// The file with this path doesn't have the path that is asked for.
+    NoPath(&'a str, Stop),
 }
 
 impl<'a> From<Failure> for Rejection<'a> {
@@ -109,18 +109,36 @@ impl<'a> From<AllocError> for Rejection<'a> {
 }
 
 impl<'a> Rejection<'a> {
-    /// Prints it and returns the status. If standard error can't be written, there is no one to report to.
-    pub(crate) fn report<R: AllocGlobal + Eprint + Print>(&self, rt: &R) -> u8 {
+    /// Returns the failure that it is.
+    pub(crate) fn into_failure(self, alloc: Global) -> Failure {
         match self {
-            Rejection::Failure(failure) => failure.report(rt, Causes::Beside),
-            Rejection::Car(path, CarFault { kind, place }, cause) => {
-                let _ = eprintln!(rt; "{path}: {kind} at {place}: {cause}");
-                REFUSED
-            }
-            Rejection::NoPath(path, line) => {
-                let _ = eprintln!(rt; "{path}: {line}");
-                NOT_SOUND
-            }
+            Rejection::Failure(failure) => failure,
+            Rejection::Car(path, fault, cause) => match explained(alloc, path, fault, cause) {
+                Ok(failure) => failure,
+                Err(error) => Failure::from(error),
+            },
+            Rejection::NoPath(path, stop) => match named(alloc, path, stop) {
+                Ok(stop) => Failure::Stopped(stop),
+                Err(error) => Failure::from(error),
+            },
         }
     }
+}
+
+// Makes the failure for an error in a file, with its cause.
+fn explained(
+    alloc: Global,
+    path: &str,
+    fault: CarFault,
+    cause: &str,
+) -> Result<Failure, AllocError> {
+    let path = String::from_str(alloc, path)?;
+    let cause = String::from_str(alloc, cause)?;
+    Ok(Failure::Explained(RunFault::from(fault), path, cause))
+}
+
+// Adds the path of a file to the line of a stop.
+fn named(alloc: Global, path: &str, stop: Stop) -> Result<Stop, AllocError> {
+    let line = format!(in alloc; "{path}: {}", stop.line.as_str())?;
+    Ok(Stop { line, ..stop })
 }

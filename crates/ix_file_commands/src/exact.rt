@@ -17,7 +17,7 @@ pub(crate) struct Inexact {
 }
 
 /// Returns where a CARv1 file isn't the own archive of a job, or None if it is. What the job doesn't find may be
-/// missing, except for its roots: the walk of the job says what is.
+/// missing, except for its roots: the walk of the job says what is, and which roots can't be exported.
 pub(crate) fn inexact_in(
     alloc: Global,
     car: &[u8],
@@ -25,6 +25,12 @@ pub(crate) fn inexact_in(
 ) -> Result<Option<Inexact>, AllocError> {
     match check_archive(alloc, car, job, AllowMissing::all()) {
         Ok(_) => Ok(None),
+        Err(
+            ArchiveFault {
+                place: _,
+                reason: ArchiveReason::Unfinished(ReceiveFault::Root(_, _)),
+            },
+        ) => Ok(None),
         Err(ArchiveFault { place, reason }) => Ok(Some(inexact_at(alloc, place, reason)?)),
     }
 }
@@ -64,8 +70,8 @@ fn refused_at(
     cid: Option<Cid>,
 ) -> Result<Inexact, AllocError> {
     let reason = word_of(alloc, &fault)?;
-    let cid = match fault {
-        ReceiveFault::Missing(root) => Some(root),
+    let cid = match &fault {
+        ReceiveFault::Missing(root) => Some(root.try_clone(alloc)?),
         _ => cid,
     };
     Ok(Inexact { place, reason, cid })
@@ -80,6 +86,7 @@ fn word_of(alloc: Global, fault: &ReceiveFault) -> Result<String, AllocError> {
         ReceiveFault::OutOfOrder => "order",
         ReceiveFault::NotAskedFor => "surplus",
         ReceiveFault::Missing(_) => "missing",
+        ReceiveFault::Root(_, verdict) => return format!(in alloc; "{verdict}"),
         ReceiveFault::Limit => "limit",
         // A file is checked up to the first fault, so a check that has ended ran out of memory.
         ReceiveFault::Ended | ReceiveFault::Memory => return Err(AllocError),

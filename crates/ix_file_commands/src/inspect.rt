@@ -6,7 +6,7 @@ use ix_car::{
     CarFault, CarFile, CarKind, Payload, Section, has_index, is_carv2, payload_of, read_sections,
 };
 use ix_cid::HashFunction;
-use ix_cli_io::{ANY_SIZE, Failure, REFUSED, STANDARD_INPUT, read_input};
+use ix_cli_io::{ANY_SIZE, ErrorCode, Failure, STANDARD_INPUT, read_input};
 use ix_inspect::{Kind, Summary, codec_name, hash_name, kind_of, summary_of};
 use ix_options::{
     ArgKind, ArgSpec, CARV2, CARV2_HEADER, CommandSpec, JSON, MAX_INPUT, QUIET,
@@ -365,7 +365,7 @@ fn push_sizes(text: &mut String, summary: &Summary) -> Result<(), AllocError> {
 }
 
 // Prints why a file is rejected, whose CARv1 file begins at an offset, and what it is.
-fn refuse<R: AllocGlobal + Eprint + Print>(
+fn refuse<R: AllocGlobal + Print>(
     rt: &R,
     path: &str,
     car: &[u8],
@@ -380,14 +380,8 @@ fn refuse<R: AllocGlobal + Eprint + Print>(
     if form.is_json() {
         print_fault(rt, path, kind, start, fault)?;
     }
-    if fault.place == 0 {
-        print_kind(rt, path, fault, words_of(kind));
-    } else if is_of_carv2(kind, &fault) {
-        print_kind(rt, path, fault, CARV2_HEADER);
-    } else {
-        print_kept(rt, path, start, fault);
-    }
-    Ok(REFUSED)
+    let line = refused_line(rt.alloc(), path, kind, start, fault);
+    Err(Failure::stopped(ErrorCode::Car, line))
 }
 
 // Prints the object of a file that is rejected.
@@ -409,28 +403,34 @@ fn print_fault<R: AllocGlobal + Print>(
     print_whole(rt, object.as_slice()).map(|_| ())
 }
 
-// Prints what a file is. If standard error can't be written, there is no one to report to.
-fn print_kind<R: Eprint>(rt: &R, path: &str, fault: CarFault, words: &str) {
+// Returns the line for a file that is rejected: what it is, or how to keep the bytes before an error in the CARv1 file
+// that begins at an offset.
+fn refused_line(
+    alloc: Global,
+    path: &str,
+    file: Kind,
+    start: usize,
+    fault: CarFault,
+) -> Result<String, AllocError> {
     let CarFault { kind, place } = fault;
-    let _ = eprintln!(rt; "{path}: {kind} at {place}: {words}");
-}
-
-// Prints how to keep the bytes before an error in a CARv1 file that begins at an offset.
-fn print_kept<R: Eprint>(rt: &R, path: &str, start: usize, fault: CarFault) {
-    let CarFault { kind, place } = fault;
+    if place == 0 {
+        return format!(in alloc; "{path}: {kind} at {place}: {}", words_of(file));
+    }
+    if is_of_carv2(file, &fault) {
+        return format!(in alloc; "{path}: {kind} at {place}: {CARV2_HEADER}");
+    }
     let words = if kind == CarKind::Truncated {
         "its whole sections are"
     } else {
         "the sections before are"
     };
-    let _ = if start == 0 {
-        eprintln!(rt;
+    if start == 0 {
+        return format!(in alloc;
             "{path}: {kind} at {place}: {words} its first {place} bytes (head -c {place})"
-        )
-    } else {
-        let (from, size) = (start.saturating_add(1), place.saturating_sub(start));
-        eprintln!(rt;
-            "{path}: {kind} at {place}: {words} its bytes {start} to {place} (tail -c +{from} | head -c {size})"
-        )
-    };
+        );
+    }
+    let (from, size) = (start.saturating_add(1), place.saturating_sub(start));
+    format!(in alloc;
+        "{path}: {kind} at {place}: {words} its bytes {start} to {place} (tail -c +{from} | head -c {size})"
+    )
 }

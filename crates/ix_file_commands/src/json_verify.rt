@@ -2,9 +2,11 @@
 
 use crate::exact::Inexact;
 use crate::json_line::{begin_object, end_object, push_boolean, push_count};
-use crate::verify_report::Report;
+use crate::verify_report::{NO_FILE, Report};
 use ix_archive::Skip;
+use ix_cbor::CborFault;
 use ix_json_report::{push_cid, push_text, push_verdict};
+use ix_path::cause_word;
 use ix_verify::Unsound;
 use json::Writer;
 use std::alloc::{AllocError, Global};
@@ -33,39 +35,77 @@ pub(crate) fn report_object(alloc: Global, report: &Report<'_>) -> Result<Vec<u8
     end_object(out)
 }
 
+/// Returns the object of a file that isn't there.
+pub(crate) fn no_file_object(alloc: Global, path: &str) -> Result<Vec<u8>, AllocError> {
+    let mut out = begin_object(alloc)?;
+    push_text(&mut out, "file", path)?;
+    push_text(&mut out, "outcome", NO_FILE)?;
+    end_object(out)
+}
+
 // Appends the findings that are printed.
 fn push_findings(alloc: Global, out: &mut Writer, report: &Report<'_>) -> Result<(), AllocError> {
     out.key("findings")?;
     out.begin_array()?;
     for section in &report.found.unsound.first {
-        push_section(alloc, out, report.start, section)?;
+        push_section(alloc, out, report, section)?;
     }
-    for skip in report.found.skips.first.iter().take(report.links()) {
-        push_link(alloc, out, skip)?;
+    let skips = report.found.skips.first.iter();
+    for (number, skip) in skips.enumerate().take(report.links()) {
+        push_link(alloc, out, report, number, skip)?;
     }
     out.end_array()
 }
 
-// Appends the object of a section, in a CARv1 file that begins at an offset.
+// Appends the object of a section.
 fn push_section(
     alloc: Global,
     out: &mut Writer,
-    start: usize,
+    report: &Report<'_>,
     section: &Unsound,
 ) -> Result<(), AllocError> {
     out.begin_object()?;
-    push_count(out, "section", start.saturating_add(section.place))?;
+    push_count(out, "section", report.start.saturating_add(section.place))?;
     push_verdict(alloc, out, "verdict", section.verdict)?;
     push_cid(alloc, out, &section.cid)?;
+    push_path(out, report.section_path(section))?;
+    push_cause(out, report.section_cause(section))?;
     out.end_object()
 }
 
-// Appends the object of a link.
-fn push_link(alloc: Global, out: &mut Writer, skip: &Skip) -> Result<(), AllocError> {
+// Appends the object of the link of this number.
+fn push_link(
+    alloc: Global,
+    out: &mut Writer,
+    report: &Report<'_>,
+    number: usize,
+    skip: &Skip,
+) -> Result<(), AllocError> {
     out.begin_object()?;
     push_verdict(alloc, out, "link", skip.verdict)?;
     push_cid(alloc, out, &skip.cid)?;
+    push_path(out, report.link_path(number))?;
+    push_cause(out, report.link_cause(skip))?;
     out.end_object()
+}
+
+// Appends a path, if it is known.
+fn push_path(out: &mut Writer, path: Option<&str>) -> Result<(), AllocError> {
+    match path {
+        Some(path) => push_text(out, "path", path),
+        None => Ok(()),
+    }
+}
+
+// Appends why bytes are malformed, and the offset in them.
+fn push_cause(out: &mut Writer, fault: Option<CborFault>) -> Result<(), AllocError> {
+    match fault {
+        Some(fault) => {
+            push_text(out, "cause", cause_word(fault.kind))?;
+            push_count(out, "offset", fault.place)
+        }
+        None => Ok(()),
+    }
 }
 
 // Appends the first place at which a CARv1 file, which begins at an offset, isn't what is asked for.

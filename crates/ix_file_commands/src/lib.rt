@@ -5,6 +5,7 @@
 mod car_input;
 mod exact;
 pub mod inspect;
+mod job_archives;
 mod json_inspect;
 mod json_line;
 mod json_verify;

@@ -1,33 +1,45 @@
 //! The command `verify`: whether CARv1 files are sound, and whole.
 
-use crate::car_input::{CarInput, Rejection};
+use crate::car_input::{CarInput, NOT_SOUND, Rejection};
 use crate::exact::{Inexact, inexact_header, inexact_in};
-use crate::verify_report::{Report, print_report};
+use crate::job_archives::{JobArchives, other_header};
+use crate::verify_report::{Report, print_no_file, print_report};
 pub use crate::verify_spec::SPEC;
-use crate::verify_spec::{
-    ALL, ALLOW_MISSING, BLOCKS_ONLY, EXACT, FILES, PREFER_SOUND, QUIET, WITH,
-};
+use crate::verify_spec::{ALL, BLOCKS_ONLY, EXACT, FILES, PATHS, PREFER_SOUND, QUIET, WITH};
 use crate::wanted::Wanted;
 use clap::ArgMatches;
 use clap::error::ErrorKind as UsageKind;
 use ix_car::read_header;
-use ix_cli_io::{ANY_SIZE, Failure, Progress, ProgressMode, REFUSED, STANDARD_INPUT, size_of_all};
+use ix_cid::code::{DAG_CBOR, RAW};
+use ix_cli_io::{
+    ANY_SIZE, Causes, ErrorCode, Failure, Progress, ProgressMode, REFUSED, STANDARD_INPUT,
+    check_memory, size_of_all,
+};
+use ix_load::allowed_missing;
 use ix_options::{
-    Host, JSON, VERIFIERS, available_processors, later_note, most_input, print_notes,
-    print_refusal, progress_mode,
+    Host, JSON, VERIFIERS, available_processors, failure_object, later_note, most_input, print_all,
+    print_notes, progress_mode,
 };
 use ix_store::Store;
+use ix_trace::trace;
 use ix_verify::{
     AllowMissing, Beside, Copies, Findings, JobWalk, Observer, OtherFile, Scope, load_beside,
     verify_beside, verify_job, verify_sections,
 };
 use ix_walk::Job;
 use std::alloc::{AllocError, Global};
+use std::io::ErrorKind;
 use std::num::NonZeroUsize;
 use std::rt::{Clock, Files};
 
 // How many findings of a file are printed without `--all`.
 const FIRST: usize = 20;
+
+// The line where memory runs out for paths.
+const NO_PATHS: &str = "note: out of memory for the paths of links";
+
+// The line where links have no path since a job has no such roots.
+const TOO_MANY_ROOTS: &str = "note: links have no paths: they are followed from more than 64 roots";
 
 // What the arguments choose besides the files.
 #[derive(Clone, Copy)]
@@ -36,6 +48,8 @@ struct VerifyCommand<'a> {
     scope: Scope,
     // What is asked for in place of everything below the roots, if that was given.
     wanted: Option<Wanted<'a>>,
+    // The jobs whose archives are verified, if that was given.
+    archives: Option<JobArchives<'a>>,
     // Whether a file is to be exactly what is asked for.
     is_exact: bool,
     // Which copy of a block counts for a link.
@@ -44,6 +58,8 @@ struct VerifyCommand<'a> {
     allowed: Option<AllowMissing>,
     // Whether all findings are printed, with the line of the file after them.
     prints_all: bool,
+    // Whether a link is printed with its path.
+    has_paths: bool,
     is_json: bool,
     is_quiet: bool,
     // The greatest size of a file.
@@ -58,27 +74,28 @@ pub fn run<'a, R: Host>(rt: &R, words: &ArgMatches<'a>, is_terminal: bool) -> Re
     if let Some(wanted) = &command.wanted
         && let Some(line) = wanted.refused(rt.alloc())
     {
-        return print_refusal(rt, line);
+        return Err(Failure::stopped(ErrorCode::Job, line));
     }
     let progress = Progress::new(rt, command.progress);
     let mut others = Vec::new(rt.alloc());
     let paths = words.get_strs(WITH.name).unwrap_or(&[]);
+    check_memory(rt, paths)?;
     let files = words.get_strs(FILES.name).unwrap_or(&[]);
-    progress.expect(size_of_both(rt, paths, files));
+    if command.archives.is_none() {
+        progress.expect(size_of_both(rt, paths, files));
+    }
     if let Err(rejection) = command.read_others(rt, paths, &progress, &mut others) {
         progress.end();
-        return Ok(rejection.report(rt));
+        return Ok(command.report(rt, rejection));
+    }
+    let others = others.as_slice();
+    if let Some(archives) = &command.archives {
+        return command.verify_archives(rt, archives, others, &progress);
     }
     let mut status = 0;
     for path in files {
-        let told = match command.verify_file(rt, path, others.as_slice(), &progress) {
-            Ok(told) => told,
-            Err(rejection) => {
-                progress.end();
-                rejection.report(rt)
-            }
-        };
-        status = worse(status, told);
+        let told = command.verify_file(rt, path, None, others, &progress);
+        status = worse(status, command.told(rt, told, &progress));
     }
     Ok(status)
 }
@@ -128,6 +145,7 @@ impl<'a> VerifyCommand<'a> {
         is_terminal: bool,
     ) -> Result<VerifyCommand<'a>, Failure> {
         check_standard_input(alloc, words)?;
+        let archives = JobArchives::given(alloc, words)?;
         let threads = VERIFIERS.threads(words, processors) as usize;
         Ok(VerifyCommand {
             threads: NonZeroUsize::new(threads).unwrap_or(NonZeroUsize::MIN),
@@ -137,19 +155,86 @@ impl<'a> VerifyCommand<'a> {
                 Scope::Graph
             },
             wanted: Wanted::given(alloc, words)?,
+            archives,
             is_exact: EXACT.is_given(words),
             copies: if PREFER_SOUND.is_given(words) {
                 Copies::Sound
             } else {
                 Copies::First
             },
-            allowed: allowed_missing(alloc, words)?,
+            allowed: given_allowed(alloc, words)?,
             prints_all: ALL.is_given(words),
+            has_paths: PATHS.is_given(words),
             is_json: JSON.is_given(words),
             is_quiet: QUIET.is_given(words),
             most_input: most_input(alloc, &SPEC, words, ANY_SIZE)?,
             progress: progress_mode(words, &QUIET, is_terminal),
         })
+    }
+
+    // Prints why a file is rejected, as JSON too if that is asked for, and returns the status. If an output can't be
+    // written, there is no one to report to.
+    fn report<'f, R: AllocGlobal + Eprint + Print>(&self, rt: &R, rejection: Rejection<'f>) -> u8 {
+        let failure = rejection.into_failure(rt.alloc());
+        let status = failure.report(rt, Causes::Beside);
+        if self.is_json
+            && let Ok(Some(object)) = failure_object(rt.alloc(), &failure)
+        {
+            let _ = print_all(rt, object.as_slice());
+        }
+        status
+    }
+
+    // Returns the status of a file that was verified, and prints why it is rejected if it is.
+    fn told<'f, R: Host>(
+        &self,
+        rt: &R,
+        told: Result<u8, Rejection<'f>>,
+        progress: &Progress<R>,
+    ) -> u8 {
+        match told {
+            Ok(status) => status,
+            Err(rejection) => {
+                progress.end();
+                self.report(rt, rejection)
+            }
+        }
+    }
+
+    // Verifies the archive of each job beside others, and returns the status.
+    fn verify_archives<R: Host>(
+        &self,
+        rt: &R,
+        archives: &JobArchives<'_>,
+        others: &[OtherFile],
+        progress: &Progress<R>,
+    ) -> Result<u8, Failure> {
+        let mut status = 0;
+        for job in &archives.read(rt, self.most_input)? {
+            let path = archives.path_of(rt.alloc(), job)?;
+            let told = self.verify_archive(rt, path.as_str(), job, others, progress);
+            status = worse(status, self.told(rt, told, progress));
+        }
+        Ok(status)
+    }
+
+    // Verifies the archive of a job beside others, prints what was found, or that it isn't there, and returns the
+    // status.
+    fn verify_archive<'f, R: Host>(
+        &self,
+        rt: &R,
+        path: &'f str,
+        job: &Job,
+        others: &[OtherFile],
+        progress: &Progress<R>,
+    ) -> Result<u8, Rejection<'f>> {
+        let told = self.verify_file(rt, path, Some(job), others, progress);
+        if is_not_there(&told) {
+            progress.end();
+            print_no_file(rt, path, self.is_json)?;
+            return Ok(NOT_SOUND);
+        }
+        told
     }
 
     // Reads the files beside which others are verified, up to the first that is rejected.
@@ -190,29 +275,38 @@ impl<'a> VerifyCommand<'a> {
         CarInput::load(rt, path, self.most_input, self.threads.get(), progress)
     }
 
-    // Verifies a file beside others, prints what was found and how many blocks are a later copy, and returns the
-    // status.
+    // Verifies a file beside others, as the archive of a job if one is given, prints what was found and how many blocks
+    // are a later copy, and returns the status.
     fn verify_file<'f, R: Host>(
         &self,
         rt: &R,
         path: &'f str,
+        job: Option<&Job>,
         others: &[OtherFile],
         progress: &Progress<R>,
     ) -> Result<u8, Rejection<'f>> {
         let input = self.load(rt, path, progress)?;
-        let (found, inexact) = self.judge(rt, &input, others, progress)?;
+        let Judged {
+            found,
+            inexact,
+            paths,
+        } = match job {
+            Some(job) => self.archive_findings(rt, &input, others, job, progress)?,
+            None => self.judge(rt, &input, others, progress)?,
+        };
         progress.end_checked();
-        let inexact = inexact.as_ref();
         let report = Report {
             path,
             bytes: input.size,
+            car: input.car.as_slice(),
             start: input.source.start,
             found: &found,
-            inexact,
+            inexact: inexact.as_ref(),
             most: self.most(),
             prints_all: self.prints_all,
             is_json: self.is_json,
             shows_absent: self.allowed.is_some(),
+            paths: paths.as_slice(),
         };
         let status = if self.is_quiet && report.is_sound() {
             0
@@ -223,18 +317,17 @@ impl<'a> VerifyCommand<'a> {
         Ok(status)
     }
 
-    // Verifies a file beside others, and shows how far it is. Returns the first place at which it isn't exactly what is
-    // asked for too, if it is to be.
+    // Verifies a file beside others, and shows how far it is.
     fn judge<'f, R: Host>(
         &self,
         rt: &R,
         input: &CarInput<'f>,
         others: &[OtherFile],
         progress: &Progress<R>,
-    ) -> Result<(Findings, Option<Inexact>), Rejection<'f>> {
+    ) -> Result<Judged, Rejection<'f>> {
         match &self.wanted {
             Some(wanted) => self.wanted_findings(rt, input, others, wanted, progress),
-            None => Ok((self.findings(rt, input, others, progress)?, None)),
+            None => Ok(Judged::of(rt.alloc(), self.findings(rt, input, others, progress)?)),
         }
     }
 
@@ -276,8 +369,7 @@ impl<'a> VerifyCommand<'a> {
         self.allowed.unwrap_or(AllowMissing::none())
     }
 
-    // Verifies a file beside others for what is asked for, and shows how far it is. Returns the first place at which
-    // it isn't exactly that too, if it is to be.
+    // Verifies a file beside others for what is asked for, and shows how far it is.
     fn wanted_findings<'f, R: Host>(
         &self,
         rt: &R,
@@ -285,32 +377,59 @@ impl<'a> VerifyCommand<'a> {
         others: &[OtherFile],
         wanted: &Wanted<'_>,
         progress: &Progress<R>,
-    ) -> Result<(Findings, Option<Inexact>), Rejection<'f>> {
+    ) -> Result<Judged, Rejection<'f>> {
         let (store, later_count) = self.store_of(rt, input, others)?;
         match job_of(rt.alloc(), input, wanted, &store)? {
             None => self.rootless_findings(rt, input, others, progress),
             Some(job) => {
                 let mut judged = self.job_findings(rt, input, &store, &job, progress)?;
-                judged.0.later_count = later_count;
+                judged.found.later_count = later_count;
                 Ok(judged)
             }
         }
     }
 
-    // Verifies a file whose header has no roots: nothing is asked for, and it is no export.
+    // Verifies a file beside others as the archive of a job, and shows how far it is.
+    fn archive_findings<'f, R: Host>(
+        &self,
+        rt: &R,
+        input: &CarInput<'f>,
+        others: &[OtherFile],
+        job: &Job,
+        progress: &Progress<R>,
+    ) -> Result<Judged, Rejection<'f>> {
+        let (store, later_count) = self.store_of(rt, input, others)?;
+        let mut judged = self.job_findings(rt, input, &store, job, progress)?;
+        judged.found.later_count = later_count;
+        if !self.is_exact {
+            judged.inexact = other_header(rt.alloc(), input.car.as_slice(), job)?;
+        }
+        Ok(judged)
+    }
+
+    // Verifies a file whose header has no roots: nothing is asked for, and it is no export. So is one with more roots
+    // than a job has, of whose links no path is known.
     fn rootless_findings<'f, R: Host>(
         &self,
         rt: &R,
         input: &CarInput<'f>,
         others: &[OtherFile],
         progress: &Progress<R>,
-    ) -> Result<(Findings, Option<Inexact>), Rejection<'f>> {
+    ) -> Result<Judged, Rejection<'f>> {
         let inexact = if self.is_exact {
             Some(inexact_header(rt.alloc())?)
         } else {
             None
         };
-        Ok((self.findings(rt, input, others, progress)?, inexact))
+        let found = self.findings(rt, input, others, progress)?;
+        if self.has_paths && found.skips.count > 0 {
+            let _ = rt.eprintln(TOO_MANY_ROOTS);
+        }
+        Ok(Judged {
+            found,
+            inexact,
+            paths: Vec::new(rt.alloc()),
+        })
     }
 
     // Loads the blocks of a file and of others, and returns how many are a later copy.
@@ -327,8 +446,7 @@ impl<'a> VerifyCommand<'a> {
         }
     }
 
-    // Verifies a file for a job over a store, and shows how far it is. Returns the first place at which it isn't the
-    // export of the job too, if it is to be.
+    // Verifies a file for a job over a store, and shows how far it is.
     fn job_findings<'f, R: Host>(
         &self,
         rt: &R,
@@ -336,7 +454,7 @@ impl<'a> VerifyCommand<'a> {
         store: &Store,
         job: &Job,
         progress: &Progress<R>,
-    ) -> Result<(Findings, Option<Inexact>), Rejection<'f>> {
+    ) -> Result<Judged, Rejection<'f>> {
         let (alloc, threads, most) = (rt.alloc(), self.threads, self.most());
         let observer = Observing { progress };
         let walk = JobWalk {
@@ -354,8 +472,79 @@ impl<'a> VerifyCommand<'a> {
         } else {
             None
         };
-        Ok((found, inexact))
+        let paths = if self.has_paths {
+            link_paths(rt, store, job, &found)
+        } else {
+            Vec::new(alloc)
+        };
+        Ok(Judged {
+            found,
+            inexact,
+            paths,
+        })
     }
+}
+
+// Returns whether a file isn't there.
+fn is_not_there<'f>(told: &Result<u8, Rejection<'f>>) -> bool {
+    match told {
+        Err(Rejection::Failure(Failure::CannotRead(_, error))) => {
+            error.kind() == ErrorKind::NotFound
+        }
+        _ => false,
+    }
+}
+
+// What was found of a file.
+#[derive(Drop)]
+struct Judged {
+    found: Findings,
+    // The first place at which it isn't exactly what is asked for, if it is to be.
+    inexact: Option<Inexact>,
+    // The paths of the links that were kept, in their order, if they are asked for.
+    paths: Vec<Option<String>>,
+}
+
+impl Judged {
+    // Returns these findings alone.
+    fn of(alloc: Global, found: Findings) -> Judged {
+        Judged {
+            found,
+            inexact: None,
+            paths: Vec::new(alloc),
+        }
+    }
+}
+
+// Returns the paths of the links that were kept of a walk of a job. If memory runs out, a line on standard error says
+// so.
+fn link_paths<R: AllocGlobal + Eprint>(
+    rt: &R,
+    store: &Store,
+    job: &Job,
+    found: &Findings,
+) -> Vec<Option<String>> {
+    match traced(rt.alloc(), store, job, found) {
+        Ok(paths) => paths,
+        Err(_) => {
+            let _ = rt.eprintln(NO_PATHS);
+            Vec::new(rt.alloc())
+        }
+    }
+}
+
+// Returns the paths of the links that were kept of a walk of a job.
+fn traced(
+    alloc: Global,
+    store: &Store,
+    job: &Job,
+    found: &Findings,
+) -> Result<Vec<Option<String>>, AllocError> {
+    let mut numbers = Vec::with_capacity(alloc, found.skips.first.len())?;
+    for skip in &found.skips.first {
+        numbers.push(skip.seq)?;
+    }
+    trace(alloc, store, job, numbers.as_slice())
 }
 
 // Returns the job of the roots of a file, or None if it has none.
@@ -395,44 +584,17 @@ fn print_later<R: AllocGlobal + Eprint>(rt: &R, path: &str, count: usize) {
 }
 
 // Returns which links may lead to blocks that aren't there, if that was given.
-fn allowed_missing<'a>(
+fn given_allowed<'a>(
     alloc: Global,
     words: &ArgMatches<'a>,
-) -> Result<Option<AllowMissing>, Failure> {
-    let Some(text) = ALLOW_MISSING.optional_text(words) else {
-        return Ok(None);
-    };
-    match allowed_in(text) {
-        Some(allowed) => Ok(Some(allowed)),
-        None => Err(Failure::from(refused_codecs(alloc, text)?)),
+) -> Result<Option<AllowMissing>, clap::Error> {
+    match allowed_missing(alloc, &SPEC, words)? {
+        Some(which) => Ok(Some(AllowMissing {
+            raw: which.allows(RAW),
+            dag_cbor: which.allows(DAG_CBOR),
+        })),
+        None => Ok(None),
     }
-}
-
-// Parses codecs, with one comma between, or the word for all.
-fn allowed_in(text: &str) -> Option<AllowMissing> {
-    if text == "all" {
-        return Some(AllowMissing {
-            raw: true,
-            dag_cbor: true,
-        });
-    }
-    let mut allowed = AllowMissing::none();
-    for codec in text.split(',') {
-        match codec {
-            "raw" => allowed.raw = true,
-            "dag-cbor" => allowed.dag_cbor = true,
-            _ => return None,
-        }
-    }
-    Some(allowed)
-}
-
-// Makes the error for a text that isn't codecs.
-fn refused_codecs(alloc: Global, text: &str) -> Result<clap::Error, AllocError> {
-    let message = format!(in alloc;
-        "invalid value '{text}' for '--allow-missing <WHICH>': WHICH is raw, dag-cbor, both with one comma between, or all"
-    )?;
-    SPEC.refusal(alloc, UsageKind::ValueValidation, message.as_str())
 }
 
 // Rejects standard input that is given twice.

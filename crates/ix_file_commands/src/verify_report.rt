@@ -2,9 +2,16 @@
 
 use crate::car_input::NOT_SOUND;
 use crate::exact::Inexact;
-use crate::json_verify::report_object;
+use crate::json_verify::{no_file_object, report_object};
+use ix_archive::Skip;
+use ix_car::read_section;
+use ix_cbor::CborFault;
+use ix_cid::HashFunction;
 use ix_cli_io::{Failure, STANDARD_INPUT};
+use ix_options::print_all;
+use ix_path::{cause_word, fault_in};
 use ix_run::RunFault;
+use ix_verdict::Verdict;
 use ix_verify::{Findings, Outcome, Unsound};
 use std::alloc::{AllocError, Global};
 use std::io::{self, BufWriter, ErrorKind, Write};
@@ -12,12 +19,16 @@ use std::io::{self, BufWriter, ErrorKind, Write};
 // The outcome of a file that is no worse than incomplete, and not exactly what is asked for.
 const INEXACT: &str = "inexact";
 
+/// The outcome of a file that isn't there.
+pub(crate) const NO_FILE: &str = "no-file";
+
 /// The report on a file.
 #[derive(Drop)]
 pub(crate) struct Report<'a> {
     pub path: &'a str,
     pub bytes: usize,
-    /// The offset in the file of the CARv1 file that was verified.
+    /// The CARv1 file that was verified, and its offset in the file.
+    pub car: &'a [u8],
     pub start: usize,
     pub found: &'a Findings,
     /// The first place at which it isn't exactly what is asked for, if it was to be.
@@ -28,6 +39,8 @@ pub(crate) struct Report<'a> {
     pub is_json: bool,
     /// Whether it is printed how many blocks are absent.
     pub shows_absent: bool,
+    /// The paths of the links that were kept, in their order, or none.
+    pub paths: &'a [Option<String>],
 }
 
 impl<'a> Report<'a> {
@@ -50,6 +63,42 @@ impl<'a> Report<'a> {
         let sections = self.found.unsound.first.len();
         let links = self.found.skips.first.len();
         links.min(self.most.saturating_sub(sections))
+    }
+
+    /// Returns the first error of the block of a section, if it is malformed.
+    pub(crate) fn section_cause(&self, section: &Unsound) -> Option<CborFault> {
+        if section.verdict != Verdict::Malformed {
+            return None;
+        }
+        let rest = self.car.get(section.place..)?;
+        let (section, _) = read_section(rest.len(), rest).ok()?;
+        fault_in(section.block)
+    }
+
+    /// Returns the first error of what a link leads to, if it is malformed: of an identity CID, or of a section that is
+    /// among the findings.
+    pub(crate) fn link_cause(&self, skip: &Skip) -> Option<CborFault> {
+        if skip.verdict != Verdict::Malformed {
+            return None;
+        }
+        if skip.cid.parts().hash_function() == Some(HashFunction::Identity) {
+            return fault_in(skip.cid.digest());
+        }
+        let mut sections = self.found.unsound.first.iter();
+        let section = sections.find(|section| section.cid == skip.cid)?;
+        self.section_cause(section)
+    }
+
+    /// Returns the path of the link of this number, if it is known.
+    pub(crate) fn link_path(&self, number: usize) -> Option<&str> {
+        let path = self.paths.get(number)?;
+        path.as_ref().map(|path| path.as_str())
+    }
+
+    /// Returns the path of the first link to the block of a section, if it is among the findings and known.
+    pub(crate) fn section_path(&self, section: &Unsound) -> Option<&str> {
+        let mut skips = self.found.skips.first.iter();
+        self.link_path(skips.position(|skip| skip.cid == section.cid)?)
     }
 
     /// Returns how many findings aren't printed.
@@ -95,6 +144,19 @@ pub(crate) fn print_report<R: AllocGlobal + Print>(
         }
         Err(Stop::Memory) => Err(Failure::Fault(RunFault::Memory)),
     }
+}
+
+/// Prints that a file isn't there, as text or as JSON.
+pub(crate) fn print_no_file<R: AllocGlobal + Print>(
+    rt: &R,
+    path: &str,
+    is_json: bool,
+) -> Result<(), Failure> {
+    let alloc = rt.alloc();
+    if is_json {
+        return print_all(rt, no_file_object(alloc, path)?.as_slice());
+    }
+    print_all(rt, format!(in alloc; "{path} {NO_FILE}\n")?.as_bytes())
 }
 
 fn write_report<R: AllocGlobal + Print>(rt: &R, report: &Report<'_>) -> Result<(), Stop> {
@@ -145,11 +207,13 @@ fn write_findings<W: Write>(
 ) -> Result<(), Stop> {
     let found = report.found;
     for section in &found.unsound.first {
-        write_section(output, report.start, section, section.cid.text(alloc))?;
+        write_section(alloc, output, report, section)?;
     }
-    for skip in found.skips.first.iter().take(report.links()) {
+    for (number, skip) in found.skips.first.iter().enumerate().take(report.links()) {
         let (verdict, cid) = (skip.verdict, skip.cid.text(alloc)?);
-        writeln!(output, "  link {verdict} {cid}")?;
+        let cause = cause_text(alloc, report.link_cause(skip))?;
+        let path = path_text(alloc, report.link_path(number))?;
+        writeln!(output, "  link {verdict} {cid}{cause}{path}")?;
     }
     let more = report.more();
     if more > 0 {
@@ -182,15 +246,36 @@ fn write_inexact<W: Write>(
     Ok(())
 }
 
-// Writes the line for a section with this CID, in a CARv1 file that begins at an offset.
+// Writes the line for a section.
 fn write_section<W: Write>(
+    alloc: Global,
     output: &mut W,
-    start: usize,
+    report: &Report<'_>,
     section: &Unsound,
-    cid: Result<String, AllocError>,
 ) -> Result<(), Stop> {
-    let (verdict, cid) = (section.verdict, cid?);
-    let place = start.saturating_add(section.place);
-    writeln!(output, "  section {place} {verdict} {cid}")?;
+    let (verdict, cid) = (section.verdict, section.cid.text(alloc)?);
+    let place = report.start.saturating_add(section.place);
+    let cause = cause_text(alloc, report.section_cause(section))?;
+    let path = path_text(alloc, report.section_path(section))?;
+    writeln!(output, "  section {place} {verdict} {cid}{cause}{path}")?;
     Ok(())
+}
+
+// Makes the text of a path after a finding.
+fn path_text(alloc: Global, path: Option<&str>) -> Result<String, AllocError> {
+    match path {
+        Some(path) => format!(in alloc; " {path}"),
+        None => Ok(String::new(alloc)),
+    }
+}
+
+// Makes the text after a finding that is malformed.
+fn cause_text(alloc: Global, fault: Option<CborFault>) -> Result<String, AllocError> {
+    match fault {
+        Some(fault) => {
+            let (cause, place) = (cause_word(fault.kind), fault.place);
+            format!(in alloc; ": {cause} at {place}")
+        }
+        None => Ok(String::new(alloc)),
+    }
 }

@@ -1,6 +1,6 @@
 //! The row of `verify` in the table of commands, and its arguments.
 
-use ix_load::{SCOPE, SELECTOR, SELECTOR_HEX};
+use ix_load::{PART, SCOPE, SELECTOR, SELECTOR_HEX};
 use ix_options::{ArgKind, ArgSpec, CARV2, CommandSpec, JSON, MAX_INPUT, PROGRESS, VERIFIERS};
 
 const ABOUT: &str = "Check CARv1 files: each section, and every link from the roots";
@@ -35,10 +35,15 @@ selector).\n\
 The second line is followed by the findings: `section PLACE VERDICT CID` for\n\
 each section that isn't sound, PLACE being the byte at which its length begins,\n\
 and `link VERDICT CID` for each link that leads to nothing sound. The verdicts\n\
-are codec, hash, missing, damaged and malformed. U and S count all of them; the\n\
-first 20 lines are printed, and how many more there are. With --all each is\n\
-printed, and the line of the file after them. With --json a file has one object,\n\
-with the findings in it: docs/JSON.md has its keys.\n\
+are codec, hash, missing, damaged and malformed, which has the first error and\n\
+its offset in the block. U and S count all of them; the first 20 lines are\n\
+printed, and how many more there are. With --all each is printed, and the line\n\
+of the file after them. With --json a file has one object, with the findings in\n\
+it: docs/JSON.md has its keys.\n\
+\n\
+With --paths the line of a link, and that of a section to which such a link\n\
+leads, ends with its path from the root, as `show` takes it. From more than 64\n\
+roots there are no paths.\n\
 \n\
 With --allow-missing links to blocks that aren't there are no findings if WHICH\n\
 has the codec of their CID: `raw`, `dag-cbor`, both with one comma between, or\n\
@@ -62,6 +67,12 @@ REASON is `surplus` (a section that isn't asked for), `order`, `repeated`,\n\
 `missing` (a root), `header`, which has no CID, or the verdict on the section.\n\
 Other blocks may be missing: without them a FILE is incomplete.\n\
 \n\
+With --jobs one folder takes the place of FILE, and the job file says what is\n\
+asked for: DIR/NAME.car is to have the roots of the job NAME in its header, and\n\
+all that its selector enters from them, whatever its limit. If it has other\n\
+roots, it is `inexact` as above, and if it isn't there, its line is `FILE\n\
+no-file`. With --part only the archives of that part are checked.\n\
+\n\
 With --quiet the line of a file is printed only if it isn't sound.\n\
 \n\
 A header without roots has nothing to follow.\n\
@@ -72,9 +83,10 @@ A header without roots has nothing to follow.\n\
 \x20 ix_export verify a.car --with b.car --prefer-sound\n\
 \x20 ix_export verify repository.car --allow-missing raw\n\
 \x20 ix_export verify album.car --path albums/0 --exact\n\
+\x20 ix_export verify --jobs jobs.txt out --exact\n\
 \n\
-Status: 0 if each file is sound, 3 if one isn't or lacks the path, 2 if the\n\
-arguments or a file are rejected.";
+Status: 0 if each file is sound, 3 if one isn't, lacks the path or isn't there\n\
+(with --jobs), 2 if the arguments or a file are rejected.";
 
 pub(crate) const FILES: ArgSpec = ArgSpec {
     name: "file",
@@ -96,8 +108,22 @@ pub(crate) const PREFER_SOUND: ArgSpec = ArgSpec {
 
 pub(crate) const BLOCKS_ONLY: ArgSpec = ArgSpec {
     name: "blocks-only",
-    given: ArgKind::FlagWithoutAll(&["selector", "selector-hex", "scope", "path", "exact"]),
+    given: ArgKind::FlagWithoutAll(&[
+        "selector",
+        "selector-hex",
+        "scope",
+        "path",
+        "exact",
+        "paths",
+        "jobs",
+    ]),
     help: "Check the sections alone, without links",
+};
+
+pub(crate) const JOBS: ArgSpec = ArgSpec {
+    name: "jobs",
+    given: ArgKind::ConflictsWithBoth("FILE", "selector", "selector-hex"),
+    help: "Check the archives of a folder by their jobs",
 };
 
 pub(crate) const PATH: ArgSpec = ArgSpec {
@@ -116,6 +142,12 @@ pub(crate) const ALL: ArgSpec = ArgSpec {
     name: "all",
     given: ArgKind::Flag,
     help: "Print every finding, the line of the file last",
+};
+
+pub(crate) const PATHS: ArgSpec = ArgSpec {
+    name: "paths",
+    given: ArgKind::Flag,
+    help: "Print each link with its path from a root",
 };
 
 pub(crate) const ALLOW_MISSING: ArgSpec = ArgSpec {
@@ -144,9 +176,12 @@ pub static SPEC: CommandSpec = CommandSpec {
         SELECTOR_HEX,
         PATH,
         SCOPE,
+        JOBS,
+        PART,
         EXACT,
         BLOCKS_ONLY,
         ALL,
+        PATHS,
         VERIFIERS,
         MAX_INPUT,
         CARV2,

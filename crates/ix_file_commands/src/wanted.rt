@@ -1,15 +1,16 @@
 //! What a file is verified for: what a selector enters from its roots, or from where a path from its root ends.
 
 use crate::car_input::Rejection;
-use crate::verify_spec::{EXACT, PATH, SPEC};
+use crate::verify_spec::{EXACT, PATH, PATHS, SPEC};
 use clap::ArgMatches;
 use clap::error::ErrorKind as UsageKind;
 use ix_cid::Cid;
-use ix_cli_io::Failure;
+use ix_cli_io::{Failure, Stop};
 use ix_job_errors::job_fault_words;
 use ix_job_line::{JobWords, SelectorWord, jobs_of_words, selector_hex};
 use ix_load::{
-    Roots, SCOPE, SELECTOR, SELECTOR_HEX, SOME_ROOT, Scope, Unresolved, refused_roots, roots_text,
+    RootPaths, SCOPE, SELECTOR, SELECTOR_HEX, SOME_ROOT, Scope, Unresolved, refused_roots,
+    some_root,
 };
 use ix_path::{PathError, RootPath};
 use ix_store::Store;
@@ -21,6 +22,9 @@ const NAME: &str = "verify";
 
 const LIMIT: &str = "4294967295";
 
+// How many roots a job has at most.
+const MOST_ROOTS: usize = 64;
+
 const TOO_DEEP: &str = "--path and --selector: the path and the selector at its end nest more than \
 128 deep together";
 
@@ -31,6 +35,8 @@ pub(crate) struct Wanted<'a> {
     selector: SelectorWord<'a>,
     scope: Scope,
     path: Option<&'a str>,
+    // Whether only paths of findings are asked for, so a root that is named twice counts once.
+    counts_roots_once: bool,
 }
 
 impl<'a> Wanted<'a> {
@@ -40,7 +46,8 @@ impl<'a> Wanted<'a> {
         alloc: Global,
         words: &ArgMatches<'a>,
     ) -> Result<Option<Wanted<'a>>, Failure> {
-        if !is_asked(words) {
+        let is_asked = is_asked(words);
+        if !is_asked && !PATHS.is_given(words) {
             return Ok(None);
         }
         let scope = Scope::given(alloc, &SPEC, SCOPE.optional_text(words))?;
@@ -52,16 +59,21 @@ impl<'a> Wanted<'a> {
             selector: scope.given_selector(words),
             scope,
             path,
+            counts_roots_once: !is_asked,
         }))
     }
 
     /// Returns the line of a selector that is rejected, if it is.
     pub(crate) fn refused(&self, alloc: Global) -> Option<Result<String, AllocError>> {
-        self.job(alloc, SOME_ROOT, &self.selector).err()
+        match some_root(alloc) {
+            Ok(roots) => self.job(alloc, roots.as_slice(), &self.selector).err(),
+            Err(error) => Some(Err(error)),
+        }
     }
 
-    /// Returns the job of the roots in the header of a file, or None if there are none. Where there is a path, it
-    /// leads on from the one root in the store of the file's blocks.
+    /// Returns the job of the roots in the header of a file, or None if there are none, or too many for a job and
+    /// nothing is asked for but paths. Where there is a path, it leads on from the one root in the store of the file's
+    /// blocks.
     pub(crate) fn job_in<'b>(
         &self,
         alloc: Global,
@@ -69,20 +81,26 @@ impl<'a> Wanted<'a> {
         roots: &[Cid],
         store: &Store,
     ) -> Result<Option<Job>, Rejection<'b>> {
-        let text = roots_text(alloc, roots)?;
-        let job = match self.path {
-            None if roots.is_empty() => return Ok(None),
-            None => self.job(alloc, text.as_str(), &self.selector),
-            Some(_) if roots.len() != 1 => {
+        let job = match (self.path, roots) {
+            (None, []) => return Ok(None),
+            (None, _) if self.counts_roots_once => {
+                let distinct = first_distinct(alloc, roots)?;
+                if distinct.len() > MOST_ROOTS {
+                    return Ok(None);
+                }
+                self.job(alloc, distinct.as_slice(), &self.selector)
+            }
+            (None, _) => self.job(alloc, roots, &self.selector),
+            (Some(path), [root]) => {
+                let hex = self.hex_along(alloc, file, path, root, store)?;
+                self.job(alloc, roots, &SelectorWord::Hex(hex.as_str()))
+            }
+            (Some(_), _) => {
                 let why = format!(in alloc;
                     "--path leads on from one root, and there are {}",
                     roots.len()
                 )?;
                 return Err(refused(alloc, file, why.as_str())?);
-            }
-            Some(path) => {
-                let hex = self.hex_along(alloc, file, path, text.as_str(), store)?;
-                self.job(alloc, text.as_str(), &SelectorWord::Hex(hex.as_str()))
             }
         };
         match job {
@@ -95,7 +113,7 @@ impl<'a> Wanted<'a> {
     fn job(
         &self,
         alloc: Global,
-        roots: &str,
+        roots: &[Cid],
         selector: &SelectorWord<'_>,
     ) -> Result<Job, Result<String, AllocError>> {
         let words = JobWords {
@@ -117,22 +135,27 @@ impl<'a> Wanted<'a> {
         alloc: Global,
         file: &'b str,
         path: &str,
-        root: &str,
+        root: &Cid,
         store: &Store,
     ) -> Result<String, Rejection<'b>> {
-        let text = format!(in alloc; "{root}/{path}")?;
-        let option = "--path <PATH>";
-        let root = Roots::given(alloc, &SPEC, option, Some(text.as_str()), &[], self.scope)?;
-        let Roots::Paths(paths) = root else {
+        let text = format!(in alloc; "{SOME_ROOT}/{path}")?;
+        let most = self.scope.most_segments();
+        // The path was parsed before the files were read.
+        let Ok(mut whole) = RootPath::parse(alloc, text.as_str(), most) else {
             return Err(Rejection::from(AllocError));
         };
+        whole.root = root.try_clone(alloc)?;
+        let paths = RootPaths::of(alloc, whole)?;
         // The selector was read before the files were.
         let Ok(inner) = selector_hex(alloc, &self.selector) else {
             return Err(Rejection::from(AllocError));
         };
         match paths.selector_hex(alloc, store, &self.selector, inner.trim_end()) {
             Ok(hex) => Ok(hex),
-            Err(Unresolved::Line(line)) => Err(Rejection::NoPath(file, line)),
+            Err(Unresolved::Stopped(stop)) => Err(Rejection::NoPath(
+                file,
+                hinted(alloc, path, stop)?,
+            )),
             Err(Unresolved::TooDeep) => {
                 let error = SPEC.refusal(alloc, UsageKind::InvalidValue, TOO_DEEP)?;
                 Err(Rejection::from(Failure::from(error)))
@@ -140,6 +163,29 @@ impl<'a> Wanted<'a> {
             Err(Unresolved::Memory) => Err(Rejection::from(AllocError)),
         }
     }
+}
+
+// Returns each of some roots once, in the order of first occurrences, up to one more than a job may have.
+fn first_distinct(alloc: Global, roots: &[Cid]) -> Result<Vec<Cid>, AllocError> {
+    let mut distinct = Vec::new(alloc);
+    for root in roots {
+        if distinct.len() <= MOST_ROOTS && !distinct.contains(root) {
+            distinct.push(root.try_clone(alloc)?)?;
+        }
+    }
+    Ok(distinct)
+}
+
+// Returns the line for a path that leads no further, which says so if the path begins with a slash.
+fn hinted(alloc: Global, path: &str, stop: Stop) -> Result<Stop, AllocError> {
+    if !path.starts_with('/') {
+        return Ok(stop);
+    }
+    let line = format!(in alloc;
+        "{}; PATH begins with a slash, so its first segment is empty",
+        stop.line.as_str()
+    )?;
+    Ok(Stop { line, ..stop })
 }
 
 // Returns whether something is asked for.
