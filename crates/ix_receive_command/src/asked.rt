@@ -2,9 +2,11 @@
 
 use crate::spec::{LIMIT, ROOT, SPEC};
 use clap::ArgMatches;
+use ix_cid::Cid;
+use ix_cli_io::{ErrorCode, Failure};
 use ix_job_errors::job_fault_words;
 use ix_job_line::{JobWords, SelectorWord, jobs_of_words, selector_hex};
-use ix_load::{NoJobs, RootPaths, Roots, SCOPE, Scope, Unresolved, no_jobs};
+use ix_load::{RootPaths, Roots, SCOPE, Scope, Unresolved, no_jobs};
 use ix_path::RootPath;
 use ix_walk::Job;
 use std::alloc::{AllocError, Global};
@@ -28,23 +30,30 @@ pub(crate) struct Asked {
 }
 
 /// Returns what the arguments ask for, or why they are those of no job.
-pub(crate) fn asked_for<'a>(alloc: Global, words: &ArgMatches<'a>) -> Result<Asked, NoJobs> {
+pub(crate) fn asked_for<'a>(alloc: Global, words: &ArgMatches<'a>) -> Result<Asked, Failure> {
     let scope = Scope::given(alloc, &SPEC, SCOPE.optional_text(words))?;
     let selector = scope.given_selector(words);
     let limit = LIMIT.optional_text(words).unwrap_or(MOST_VISITS);
     let (option, roots) = ("--root <ROOT>", ROOT.optional_text(words));
     let roots = Roots::given(alloc, &SPEC, option, roots, &[], scope)?;
-    let text = roots.text(alloc)?;
+    let cids = roots.cids(alloc)?;
     // The selector is checked first, with the roots alone.
-    let job = job_of(alloc, text.as_str(), limit, &selector)?;
-    match roots {
-        Roots::Paths(paths) if paths.leads_on() => {
-            asked_along(alloc, paths, text.as_str(), limit, &selector)
-        }
-        _ => Ok(Asked {
+    let job = job_of(alloc, cids.as_slice(), limit, &selector)?;
+    match paths_of(roots) {
+        Some(paths) => asked_along(alloc, paths, cids.as_slice(), limit, &selector),
+        None => Ok(Asked {
             job,
             paths: Vec::new(alloc),
         }),
+    }
+}
+
+// Returns the paths of roots that have one.
+fn paths_of(roots: Roots) -> Option<RootPaths> {
+    match roots {
+        Roots::Paths(paths) => Some(paths),
+        Roots::Cids(_cids) => None,
+        Roots::Header => None,
     }
 }
 
@@ -52,17 +61,17 @@ pub(crate) fn asked_for<'a>(alloc: Global, words: &ArgMatches<'a>) -> Result<Ask
 fn asked_along(
     alloc: Global,
     paths: RootPaths,
-    roots: &str,
+    roots: &[Cid],
     limit: &str,
     selector: &SelectorWord<'_>,
-) -> Result<Asked, NoJobs> {
+) -> Result<Asked, Failure> {
     let Ok(inner) = selector_hex(alloc, selector) else {
-        return Err(NoJobs::from(AllocError));
+        return Err(Failure::from(AllocError));
     };
     let hex = match paths.unresolved_hex(alloc, selector, inner.trim_end()) {
         Ok(hex) => hex,
         Err(Unresolved::TooDeep) => {
-            return Err(NoJobs::Line(String::from_str(alloc, TOO_DEEP)?));
+            return Err(Failure::stopped(ErrorCode::Path, String::from_str(alloc, TOO_DEEP)));
         }
         Err(unresolved) => return Err(no_jobs(alloc, unresolved)?),
     };
@@ -76,10 +85,10 @@ fn asked_along(
 // Returns the job of these roots and this selector, or why there is none.
 fn job_of(
     alloc: Global,
-    roots: &str,
+    roots: &[Cid],
     limit: &str,
     selector: &SelectorWord<'_>,
-) -> Result<Job, NoJobs> {
+) -> Result<Job, Failure> {
     let words = JobWords {
         name: NAME,
         roots,
@@ -90,8 +99,11 @@ fn job_of(
     match jobs_of_words(alloc, &words, true) {
         Ok(mut jobs) => match jobs.pop() {
             Some(job) => Ok(job),
-            None => Err(NoJobs::from(AllocError)),
+            None => Err(Failure::from(AllocError)),
         },
-        Err(fault) => Err(NoJobs::Line(job_fault_words(alloc, &fault, &words)?)),
+        Err(fault) => {
+            let line = job_fault_words(alloc, &fault, &words);
+            Err(Failure::stopped(ErrorCode::Job, line))
+        }
     }
 }

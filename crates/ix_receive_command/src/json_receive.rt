@@ -4,17 +4,20 @@ use crate::rejection::Rejection;
 use crate::stream::{Ended, Outcome};
 use crate::visit_paths::StopPlace;
 use ix_archive::{Counts, End};
+use ix_check::Verdict;
+use ix_cli_io::ErrorCode;
 use ix_jobs::JobResult;
 use ix_json_report::{
-    ArchivePlace, SkipNotes, end_line, push_job, push_number, push_text, push_total,
+    ArchivePlace, ErrorNote, SkipNotes, end_line, push_error, push_job, push_number, push_text,
+    push_total,
 };
 use ix_walk::Job;
 use json::Writer;
 use std::alloc::{AllocError, Global};
 use std::slice;
 
-/// Returns the objects of a stream that was accepted: that of its job, whose skips are links that are absent,
-/// and the total, which doesn't count them.
+/// Returns the objects of a stream that was accepted: that of its job, among whose skips are links that are
+/// absent, and the total, which doesn't count these.
 pub(crate) fn accepted_objects(
     alloc: Global,
     path: &str,
@@ -27,29 +30,34 @@ pub(crate) fn accepted_objects(
     let place = if is_named {
         ArchivePlace::File(path)
     } else {
-        ArchivePlace::Part(part.as_str())
+        ArchivePlace::Part(part.as_str(), outcome.counts.bytes)
     };
     let mut outcome = outcome;
     let text = push_job(alloc, Vec::new(alloc), job, &outcome, notes, place)?;
-    outcome.skips.clear();
+    outcome
+        .skips
+        .retain(|skip| skip.verdict != Verdict::Missing);
     push_total(text, slice::from_ref(&outcome))
 }
 
 /// Returns the objects of a stream that wasn't accepted: what was written of it, why it ended, and at which
-/// visit, if that is known.
+/// visit, if that is known. What is no stream of a CARv1 file has none.
 pub(crate) fn other_objects(
     alloc: Global,
     path: &str,
     outcome: &Outcome,
     stop: &Option<StopPlace>,
 ) -> Result<Vec<u8>, AllocError> {
+    if matches!(&outcome.ended, Ended::NoCar(_) | Ended::Unreadable(_)) {
+        return Ok(Vec::new(alloc));
+    }
     let mut out = Writer::new(Vec::new(alloc));
     out.begin_object()?;
     push_text(&mut out, "job", "receive")?;
     push_text(&mut out, "end", end_of(&outcome.ended))?;
     push_number(&mut out, "sections", outcome.sections)?;
     push_number(&mut out, "bytes", outcome.bytes)?;
-    push_path(alloc, &mut out, path)?;
+    push_path(alloc, &mut out, path, outcome.bytes)?;
     if let Ended::Rejected(rejection) = &outcome.ended {
         push_rejection(&mut out, rejection, stop)?;
     }
@@ -57,23 +65,58 @@ pub(crate) fn other_objects(
     push_total(end_line(out)?, slice::from_ref(&undone(alloc)))
 }
 
+/// Appends the object of the error by which a stream ended, with this line.
+pub(crate) fn push_ended(
+    alloc: Global,
+    text: Vec<u8>,
+    ended: &Ended,
+    line: &str,
+) -> Result<Vec<u8>, AllocError> {
+    let none = None;
+    let (code, cid, path) = match ended {
+        Ended::Rejected(rejection) => (rejection.code, cid_of(rejection), &rejection.path),
+        Ended::NoCar(_) => (ErrorCode::Car, &none, &none),
+        Ended::Unreadable(_) => (ErrorCode::Read, &none, &none),
+        Ended::Unwritable(_, _) => (ErrorCode::Write, &none, &none),
+        Ended::Accepted(_) | Ended::Memory => (ErrorCode::Memory, &none, &none),
+    };
+    let note = ErrorNote {
+        code: code.word(),
+        message: line,
+        cid,
+        path,
+    };
+    push_error(text, note)
+}
+
+// Returns the CID of the block that a rejection is about: that which is missing, or that of the section, or that in
+// which a path leads no further.
+fn cid_of(rejection: &Rejection) -> &Option<String> {
+    match (&rejection.expected, &rejection.cid) {
+        (Some(_), _) => &rejection.expected,
+        (None, Some(_)) => &rejection.cid,
+        (None, None) => &rejection.about,
+    }
+}
+
 // Returns the word for how a stream ended.
 fn end_of(ended: &Ended) -> &'static str {
     match ended {
         Ended::Accepted(_) => "done",
         Ended::Rejected(_) | Ended::NoCar(_) | Ended::Unreadable(_) => "rejected",
-        Ended::Unwritable(_) => "write",
+        Ended::Unwritable(_, _) => "write",
         Ended::Memory => "memory",
     }
 }
 
-// Appends the member for where an archive is that didn't get its name.
-fn push_path(alloc: Global, out: &mut Writer, path: &str) -> Result<(), AllocError> {
+// Appends the members for where an archive is that didn't get its name, and how many bytes it has.
+fn push_path(alloc: Global, out: &mut Writer, path: &str, bytes: u64) -> Result<(), AllocError> {
     if path == "-" {
         return push_text(out, "file", path);
     }
     let part = format!(in alloc; "{path}.part")?;
-    push_text(out, "part", part.as_str())
+    push_text(out, "part", part.as_str())?;
+    push_number(out, "part_bytes", bytes)
 }
 
 // Appends the member with the first place that was rejected.

@@ -4,7 +4,8 @@ use ix_car::{Section, read_header, read_section};
 use ix_check::{Verdict, verdict_in};
 use ix_cid::Cid;
 use ix_cid::code::DAG_CBOR;
-use ix_load::obstacle_line;
+use ix_cli_io::{ErrorCode, Stop};
+use ix_load::{at_root, obstacle_stop};
 use ix_path::{Kind, Obstacle, RootPath, resolve};
 use ix_store::Store;
 use std::alloc::{AllocError, Global};
@@ -33,7 +34,7 @@ pub(crate) struct PathWatch<'s> {
 #[derive(Drop)]
 pub(crate) struct PathStop {
     /// What there is instead.
-    pub line: String,
+    pub stop: Stop,
     /// Where the section that shows it begins and ends in the bytes that were looked at.
     pub start: usize,
     pub end: usize,
@@ -47,18 +48,18 @@ enum Lead {
     ToEnd,
     // To a block that hasn't come.
     To(RootPath),
-    // No further, as this line says.
-    Nowhere(String),
+    // No further.
+    Nowhere(Stop),
 }
 
 impl<'s> PathWatch<'s> {
-    /// Watches paths of which no block has come. Returns a line if one ends in an identity CID, or in the
+    /// Watches paths of which no block has come. Returns what there is if one ends in an identity CID, or in the
     /// blocks of the base, without leading to its end.
     pub(crate) fn new(
         alloc: Global,
         paths: Vec<RootPath>,
         base: Option<&'s Store>,
-    ) -> Result<Result<PathWatch<'s>, String>, AllocError> {
+    ) -> Result<Result<PathWatch<'s>, Stop>, AllocError> {
         let mut watch = PathWatch {
             alloc,
             base,
@@ -70,17 +71,17 @@ impl<'s> PathWatch<'s> {
         };
         match watch.follow_all(paths)? {
             None => Ok(Ok(watch)),
-            Some(line) => Ok(Err(format!(in alloc; "--root: {line}")?)),
+            Some(stop) => Ok(Err(at_root(alloc, stop)?)),
         }
     }
 
     // Follows paths as far as the blocks lead. Returns what there is instead of the end of one.
-    fn follow_all(&mut self, paths: Vec<RootPath>) -> Result<Option<String>, AllocError> {
+    fn follow_all(&mut self, paths: Vec<RootPath>) -> Result<Option<Stop>, AllocError> {
         for path in paths {
             match self.followed(path)? {
                 Lead::ToEnd => {}
                 Lead::To(rest) => self.waiting.push(rest)?,
-                Lead::Nowhere(line) => return Ok(Some(line)),
+                Lead::Nowhere(stop) => return Ok(Some(stop)),
             }
         }
         Ok(None)
@@ -134,9 +135,9 @@ impl<'s> PathWatch<'s> {
             let Ok((section, after)) = read_section(rest.len(), rest) else {
                 break;
             };
-            if let Some(line) = self.add(&section)? {
+            if let Some(stop) = self.add(&section)? {
                 return Ok(Some(PathStop {
-                    line,
+                    stop,
                     start: checked.len().saturating_sub(rest.len()),
                     end: checked.len().saturating_sub(after.len()),
                     after: sections_in(after),
@@ -148,7 +149,7 @@ impl<'s> PathWatch<'s> {
     }
 
     // Adds a section, and follows the paths that wait for it. Returns what there is instead of the end of one.
-    fn add(&mut self, section: &Section<'_>) -> Result<Option<String>, AllocError> {
+    fn add(&mut self, section: &Section<'_>) -> Result<Option<Stop>, AllocError> {
         let cid = section.cid.to_cid(self.alloc)?;
         let is_waited_for = self.waiting.iter().any(|path| path.root == cid);
         if !is_waited_for && !self.keeps_all {
@@ -186,18 +187,21 @@ impl<'s> PathWatch<'s> {
     }
 
     /// Ends the stream. Returns what there is instead of the end of a path.
-    pub(crate) fn finish(&self) -> Result<Option<String>, AllocError> {
+    pub(crate) fn finish(&self) -> Result<Option<Stop>, AllocError> {
         match self.waiting.first() {
             None => Ok(None),
-            Some(path) => Ok(Some(missing_line(self.alloc, &path.root)?)),
+            Some(path) => Ok(Some(missing_stop(self.alloc, &path.root)?)),
         }
     }
 }
 
-// Makes the line for a block on a path that doesn't come.
-fn missing_line(alloc: Global, cid: &Cid) -> Result<String, AllocError> {
+// Makes the stop for a block on a path that doesn't come.
+fn missing_stop(alloc: Global, cid: &Cid) -> Result<Stop, AllocError> {
     let (verdict, cid) = (Verdict::Missing, cid.text(alloc)?);
-    format!(in alloc; "{verdict} {cid}")
+    let line = format!(in alloc; "{verdict} {}", cid.as_str())?;
+    let mut stop = Stop::new(ErrorCode::Missing, line);
+    stop.cid = Some(cid);
+    Ok(stop)
 }
 
 // Returns how many sections some bytes have.
@@ -230,7 +234,7 @@ fn followed(
     let steps = found.steps.len();
     let missing = match (obstacle, found.blocks.last()) {
         (Obstacle::Block(Verdict::Missing | Verdict::Damaged), Some(cid)) => cid,
-        _ => return Ok(Lead::Nowhere(obstacle_line(alloc, &path, &found, obstacle)?)),
+        _ => return Ok(Lead::Nowhere(obstacle_stop(alloc, blocks, &path, &found, obstacle)?)),
     };
     if !leaves.contains(missing) {
         let root = missing.try_clone(alloc)?;
@@ -243,7 +247,7 @@ fn followed(
         return Ok(Lead::ToEnd);
     }
     let bytes = Obstacle::Scalar(Kind::Bytes);
-    Ok(Lead::Nowhere(obstacle_line(alloc, &path, &found, &bytes)?))
+    Ok(Lead::Nowhere(obstacle_stop(alloc, blocks, &path, &found, &bytes)?))
 }
 
 // Returns copies of the segments after so many.

@@ -2,19 +2,20 @@
 
 use crate::asked::{Asked, asked_for};
 use crate::path_watch::PathWatch;
-use crate::report::Report;
+use crate::report::{Report, result_of};
 pub use crate::spec::SPEC;
-use crate::spec::{ANY_HEADER, FILE, MAX_BLOCK, OUT, PATHS, WITH};
+use crate::spec::{ANY_HEADER, FILE, MAX_BLOCK, OUT, PATHS, WHOLE, WITH};
 use crate::stream::{Ended, Incoming, Outcome, Reception, Request};
 use clap::ArgMatches;
 use ix_cid::code::{DAG_CBOR, RAW};
 use ix_cli_io::{
-    ANY_SIZE, Failure, Output, Progress, ProgressMode, REFUSED, STANDARD_INPUT, occupy_std_fds,
+    ANY_SIZE, Failure, Naming, Output, Progress, ProgressMode, Published, REFUSED, STANDARD_INPUT,
+    check_standard_output, occupy_std_fds,
 };
-use ix_load::{BlockFiles, LoadedBlocks, NoJobs, allowed_missing};
+use ix_load::{BlockFiles, Indexed, LoadedBlocks, allowed_missing};
 use ix_options::{
     Host, JSON, NO_SYNC, QUIET, Terminals, at_most_processors, available_processors, given_size,
-    output_path, print_refusal, progress_mode,
+    output_path, progress_mode,
 };
 use ix_own_archive::{AllowMissing, ExpectedHeader};
 use ix_store::Store;
@@ -24,8 +25,11 @@ use std::fs;
 use std::io::{self, Read, Write};
 use std::num::NonZeroUsize;
 
-// The status of a stream that isn't accepted, or whose archive can't be written.
+// The status of a stream that isn't accepted, or whose archive can't be written or isn't whole if it has to be.
 const NOT_RECEIVED: u8 = 4;
+
+// The status of a stream that is accepted and skips links.
+const HAS_SKIPS: u8 = 3;
 
 // How many threads hash sections at most.
 const HASHERS: usize = 8;
@@ -34,7 +38,7 @@ const HASHERS: usize = 8;
 const MOST_SECTION: u64 = 8 * 1024 * 1024;
 
 /// Runs the command and returns the status. Its first error is reported, checked in this order: arguments,
-/// the files of the base, the beginning of the stream, output, and the stream.
+/// the files of the base, standard output that is an input, the beginning of the stream, output, and the stream.
 ///
 /// A thread reads the stream, and may still wait for its next bytes when the command returns.
 pub fn run<'a, R: Host + Copy + Send + 'static>(
@@ -46,12 +50,7 @@ where
     R::Reader: Send + 'static,
 {
     let command = ReceiveCommand::read(rt.alloc(), words, terminals)?;
-    let asked = match asked_for(rt.alloc(), words) {
-        Ok(asked) => asked,
-        Err(NoJobs::Failure(failure)) => return Err(failure),
-        Err(NoJobs::Line(line)) => return print_refusal(rt, Ok(line)),
-    };
-    let Asked { job, paths } = asked;
+    let Asked { job, paths } = asked_for(rt.alloc(), words)?;
     let loaded = command.load_base(rt)?;
     let base = match &loaded {
         Some(blocks) => Some(store_of(blocks)),
@@ -59,13 +58,17 @@ where
     };
     let paths = match PathWatch::new(rt.alloc(), paths, base)? {
         Ok(paths) => paths,
-        Err(line) => return print_refusal(rt, Ok(line)),
+        Err(stop) => return Err(Failure::Stopped(stop)),
     };
     let wanted = Wanted {
         job: &job,
         base,
         paths,
     };
+    // Where standard output is closed, the input that is opened next takes its number.
+    if command.path.is_none() {
+        check_standard_output(rt, command.inputs(rt.alloc())?.as_slice())?;
+    }
     if command.input == STANDARD_INPUT {
         return command.receive(rt, wanted, rt.reader());
     }
@@ -89,6 +92,7 @@ struct ReceiveCommand<'a> {
     header: ExpectedHeader,
     // The greatest length of a section.
     most: usize,
+    naming: Naming,
     is_synced: bool,
     has_paths: bool,
     is_json: bool,
@@ -123,6 +127,11 @@ impl<'a> ReceiveCommand<'a> {
                 ExpectedHeader::OfJob
             },
             most: usize::try_from(most).unwrap_or(usize::MAX),
+            naming: if WHOLE.is_given(words) {
+                Naming::Whole
+            } else {
+                Naming::Complete
+            },
             is_synced: !NO_SYNC.is_given(words),
             has_paths: PATHS.is_given(words),
             is_json: JSON.is_given(words),
@@ -139,7 +148,7 @@ impl<'a> ReceiveCommand<'a> {
         let threads = available_processors(rt);
         let progress = Progress::new(rt, self.progress);
         let files = self.base.read(rt, threads, &progress)?;
-        let blocks = self.base.store_of(rt, files, threads)?;
+        let blocks = self.base.store_of(rt, files, threads, Indexed::Alone)?;
         progress.end();
         Ok(Some(blocks))
     }
@@ -176,7 +185,14 @@ impl<'a> ReceiveCommand<'a> {
         let job = stream.wanted.job;
         let outcome = self.take(rt, stream, io::writer(rt))?;
         self.report(job, "-").print(rt, &outcome, true);
-        Ok(status_of(&outcome.ended))
+        Ok(self.status_of(&outcome.ended))
+    }
+
+    // Returns the paths of all inputs.
+    fn inputs(&self, alloc: Global) -> Result<Vec<&'a str>, AllocError> {
+        let mut inputs = Vec::from_slice(alloc, self.base.paths())?;
+        inputs.push(self.input)?;
+        Ok(inputs)
     }
 
     // Writes a stream to a file, which gets its name if the stream is accepted, and is discarded if it is none.
@@ -187,27 +203,47 @@ impl<'a> ReceiveCommand<'a> {
         stream: Stream<'_, I>,
     ) -> Result<u8, Failure> {
         let job = stream.wanted.job;
-        let mut inputs = Vec::from_slice(rt.alloc(), self.base.paths())?;
-        inputs.push(self.input)?;
+        let inputs = self.inputs(rt.alloc())?;
         let output = Output::create(rt, path, inputs.as_slice(), self.is_synced)?;
-        let outcome = match self.take(rt, stream, &output) {
+        let mut outcome = match self.take(rt, stream, &output) {
             Ok(outcome) => outcome,
             Err(failure) => {
                 output.discard(rt);
                 return Err(failure);
             }
         };
+        cut_to_whole(&output, &mut outcome);
         let published = match &outcome.ended {
-            Ended::Accepted(_) => output.publish_whole(rt),
+            Ended::Accepted(counts) => {
+                let result = result_of(rt.alloc(), &outcome, counts)?;
+                output.publish(rt, job, &result, self.naming)
+            }
             Ended::NoCar(_) | Ended::Unreadable(_) => {
                 output.discard(rt);
-                Ok(())
+                Ok(UNNAMED)
             }
-            Ended::Rejected(_) | Ended::Unwritable(_) | Ended::Memory => Ok(()),
+            Ended::Rejected(_) | Ended::Unwritable(_, _) | Ended::Memory => Ok(UNNAMED),
         };
-        self.report(job, path)
-            .print(rt, &outcome, published.is_ok());
-        published.map(|()| status_of(&outcome.ended))
+        let is_named = match &published {
+            Ok(published) => {
+                print_note(rt, &published.note);
+                published.is_named
+            }
+            Err(_) => false,
+        };
+        self.report(job, path).print(rt, &outcome, is_named);
+        published.map(|_| self.status_of(&outcome.ended))
+    }
+
+    // Returns the status of a stream.
+    fn status_of(&self, ended: &Ended) -> u8 {
+        match ended {
+            Ended::Accepted(counts) if counts.unread == 0 => 0,
+            Ended::Accepted(_) if self.naming == Naming::Whole => NOT_RECEIVED,
+            Ended::Accepted(_) => HAS_SKIPS,
+            Ended::Rejected(_) | Ended::Unwritable(_, _) | Ended::Memory => NOT_RECEIVED,
+            Ended::NoCar(_) | Ended::Unreadable(_) => REFUSED,
+        }
     }
 
     // Receives a stream, and shows progress.
@@ -273,11 +309,35 @@ fn store_of(blocks: &LoadedBlocks) -> &Store {
     &blocks.store
 }
 
-// Returns the status of a stream.
-fn status_of(ended: &Ended) -> u8 {
-    match ended {
-        Ended::Accepted(_) => 0,
-        Ended::Rejected(_) | Ended::Unwritable(_) | Ended::Memory => NOT_RECEIVED,
-        Ended::NoCar(_) | Ended::Unreadable(_) => REFUSED,
+// Cuts the file of a stream whose write failed, which may have ended within a section, to the header and whole
+// sections, and counts those that it has.
+fn cut_to_whole(output: &Output, outcome: &mut Outcome) {
+    let Ended::Unwritable(_, ends) = &outcome.ended else {
+        return;
+    };
+    let size = output.size();
+    let whole = ends.iter().copied().filter(|end| *end <= size);
+    let (count, bytes) = whole.fold((0u64, outcome.bytes), |(count, _), end| {
+        (count.saturating_add(1), end)
+    });
+    output.cut(bytes);
+    // The first end of a file that had nothing is that of its header.
+    let header = u64::from(outcome.bytes == 0);
+    outcome.sections = outcome
+        .sections
+        .saturating_add(count.saturating_sub(header));
+    outcome.bytes = bytes;
+}
+
+// An output that didn't get its name.
+const UNNAMED: Published = Published {
+    is_named: false,
+    note: None,
+};
+
+// Prints a note on an output to standard error, if there is one.
+fn print_note<R: Eprint>(rt: &R, note: &Option<String>) {
+    if let Some(note) = note {
+        let _ = rt.eprint(note.as_str());
     }
 }

@@ -2,7 +2,10 @@
 
 use crate::visit_paths::StopPlace;
 use ix_car::CarKind;
+use ix_check::Verdict;
 use ix_cid::Cid;
+use ix_cli_io::{ErrorCode, Stop};
+use ix_load::{at_root, code_of_verdict};
 use ix_own_archive::{ArchiveReason, ReceiveFault, StreamFault, StreamReason};
 use std::alloc::{AllocError, Global};
 
@@ -18,6 +21,10 @@ pub(crate) struct Rejection {
     pub expected: Option<String>,
     /// The CID of what is there or is expected there, at whose visit the stream stopped, if it has one.
     pub stopped_at: Option<Cid>,
+    /// What it is, for the object of an error, and the CID and the path where a path leads no further.
+    pub code: ErrorCode,
+    pub about: Option<String>,
+    pub path: Option<String>,
     // What is added to the line after the place.
     detail: String,
     // The whole line, if it is that of a path.
@@ -41,15 +48,20 @@ impl Rejection {
         }
     }
 
-    /// Makes the rejection for a path that doesn't end in the blocks that came: the line has what there is
-    /// instead.
-    pub(crate) fn of_path(
-        alloc: Global,
-        place: u64,
-        obstacle: &str,
-    ) -> Result<Rejection, AllocError> {
+    /// Makes the rejection for a path that doesn't end in the blocks that came, with what there is instead.
+    pub(crate) fn of_path(alloc: Global, place: u64, stop: Stop) -> Result<Rejection, AllocError> {
+        let Stop {
+            code,
+            line,
+            cid,
+            path,
+            ..
+        } = at_root(alloc, stop)?;
         let mut rejection = Rejection::by(alloc, place, "path", String::new(alloc))?;
-        rejection.line = Some(format!(in alloc; "--root: {obstacle}")?);
+        rejection.line = Some(line);
+        rejection.code = code;
+        rejection.about = cid;
+        rejection.path = path;
         Ok(rejection)
     }
 
@@ -61,6 +73,9 @@ impl Rejection {
             cid: None,
             expected: None,
             stopped_at: None,
+            code: ErrorCode::Rejected,
+            about: None,
+            path: None,
             detail,
             line: None,
         })
@@ -155,6 +170,7 @@ fn refusal(
         ),
         ReceiveFault::NotAskedFor => (String::from_str(alloc, "surplus")?, ": it isn't asked for"),
         ReceiveFault::Missing(expected) => return missing(alloc, place, expected, cid),
+        ReceiveFault::Root(root, verdict) => return bad_root(alloc, place, root, *verdict),
         ReceiveFault::Limit => (
             String::from_str(alloc, "limit")?,
             ": more links than --limit allows",
@@ -168,9 +184,34 @@ fn refusal(
     let detail = format!(in alloc; "{at}{after}")?;
     let mut rejection = Rejection::by(alloc, place, word.as_str(), detail)?;
     rejection.cid = cid;
+    if let ReceiveFault::Unsound(verdict) = fault {
+        rejection.code = code_of_verdict(*verdict);
+    }
     if let Some(section) = section {
         rejection.stopped_at = Some(section.try_clone(alloc)?);
     }
+    Ok(Some(rejection))
+}
+
+// Makes the rejection for a root that can't be exported, with this verdict.
+fn bad_root(
+    alloc: Global,
+    place: u64,
+    root: &Cid,
+    verdict: Verdict,
+) -> Result<Option<Rejection>, AllocError> {
+    let word = format!(in alloc; "{verdict}")?;
+    let cid = root.text(alloc)?;
+    let why = match verdict {
+        Verdict::Codec => "its codec is neither raw nor DAG-CBOR",
+        Verdict::Hash => "its hash is neither SHA-256, SHA-512 nor identity",
+        _ => "its inline bytes aren't DAG-CBOR",
+    };
+    let detail = format!(in alloc; "the root {}: {why}", cid.as_str())?;
+    let mut rejection = Rejection::by(alloc, place, word.as_str(), detail)?;
+    rejection.cid = Some(cid);
+    rejection.code = code_of_verdict(verdict);
+    rejection.stopped_at = Some(root.try_clone(alloc)?);
     Ok(Some(rejection))
 }
 
@@ -194,6 +235,7 @@ fn missing(
     let mut rejection = Rejection::by(alloc, place, "missing", detail)?;
     rejection.cid = cid;
     rejection.expected = Some(expected);
+    rejection.code = ErrorCode::Missing;
     rejection.stopped_at = Some(stopped_at);
     Ok(Some(rejection))
 }

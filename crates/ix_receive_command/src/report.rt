@@ -1,13 +1,16 @@
 //! What is printed of a stream that ended.
 
-use crate::json_receive::{accepted_objects, other_objects};
+use crate::json_receive::{accepted_objects, other_objects, push_ended};
 use crate::stream::{Ended, Outcome};
 use crate::visit_paths::{ListedVisits, StopPlace, first_visit};
 use ix_archive::{Counts, End, Skip};
+use ix_cid::HashFunction;
 use ix_cli_io::print_report;
 use ix_jobs::{JobResult, report, report_with_absent};
-use ix_json_report::SkipNotes;
+use ix_json_report::{SkipCause, SkipNotes};
 use ix_own_archive::Counts as Received;
+use ix_path::{cause_word, fault_in};
+use ix_verdict::Verdict;
 use ix_walk::Job;
 use std::alloc::{AllocError, Global};
 use std::{slice, str};
@@ -48,9 +51,10 @@ impl<'a> Report<'a> {
     // Prints how a stream ended that wasn't accepted.
     fn print_other<R: AllocGlobal + Eprint>(&self, rt: &R, outcome: &Outcome) {
         let alloc = rt.alloc();
-        if let Ok(line) = self.line(alloc, &outcome.ended) {
-            let _ = rt.eprintln(line.as_str());
-        }
+        let Ok(line) = self.line(alloc, &outcome.ended) else {
+            return;
+        };
+        let _ = rt.eprintln(line.as_str());
         let stop = self.stop_place(rt, outcome);
         if !self.is_json {
             if let (Ended::Rejected(rejection), Some(stop)) = (&outcome.ended, &stop)
@@ -60,11 +64,21 @@ impl<'a> Report<'a> {
             }
             return;
         }
-        if !matches!(&outcome.ended, Ended::NoCar(_) | Ended::Unreadable(_))
-            && let Ok(text) = other_objects(alloc, self.path, outcome, &stop)
-        {
+        if let Ok(text) = self.objects(alloc, outcome, &stop, line.as_str()) {
             print_report(rt, text.as_slice());
         }
+    }
+
+    // Returns the objects of a stream that wasn't accepted, with that of its error, which has this line.
+    fn objects(
+        &self,
+        alloc: Global,
+        outcome: &Outcome,
+        stop: &Option<StopPlace>,
+        line: &str,
+    ) -> Result<Vec<u8>, AllocError> {
+        let text = other_objects(alloc, self.path, outcome, stop)?;
+        push_ended(alloc, text, &outcome.ended, line)
     }
 
     // Returns the visit at which a stream stopped, if it is asked for, and is one of the job. If memory runs
@@ -100,17 +114,18 @@ impl<'a> Report<'a> {
         is_named: bool,
     ) -> Result<Vec<u8>, AllocError> {
         let alloc = rt.alloc();
-        if self.has_paths && counts.missing > 0 {
+        if self.has_paths && (counts.missing > 0 || counts.unread > 0) {
             if let Some(kept) = &outcome.kept
-                && let Ok(listed) = ListedVisits::of_missing(alloc, kept, self.job)
+                && let Ok(listed) = ListedVisits::of(alloc, kept, self.job)
                 && let Ok(report) = self.with_visits(alloc, outcome, counts, is_named, listed)
             {
                 return Ok(report);
             }
             let _ = rt.eprintln(NO_PATHS);
         }
-        let none = ListedVisits::none(alloc);
-        self.with_visits(alloc, outcome, counts, is_named, none)
+        let skips = copied(alloc, &outcome.skips)?;
+        let listed = ListedVisits::without_paths(alloc, skips);
+        self.with_visits(alloc, outcome, counts, is_named, listed)
     }
 
     // Returns the report of a stream that was accepted, which lists these visits.
@@ -129,19 +144,24 @@ impl<'a> Report<'a> {
         };
         let ListedVisits { skips, paths } = listed;
         if self.is_json {
-            let result = result_of(outcome, counts, skips);
+            let causes = causes_of(alloc, skips.as_slice(), !paths.is_empty())?;
+            let result = result_with(outcome, counts, skips);
             let notes = SkipNotes {
                 absent,
                 paths: paths.as_slice(),
+                causes: causes.as_slice(),
             };
             return accepted_objects(alloc, self.path, is_named, self.job, result, notes);
         }
-        let result = result_of(outcome, counts, Vec::new(alloc));
+        let result = result_of(alloc, outcome, counts)?;
         let (jobs, results) = (slice::from_ref(self.job), slice::from_ref(&result));
         let text = match absent {
             Some(absent) => report_with_absent(alloc, jobs, results, &[absent])?,
             None => report(alloc, jobs, results)?,
         };
+        if paths.is_empty() {
+            return Ok(text);
+        }
         with_lines(alloc, text, skips.as_slice(), paths.as_slice())
     }
 
@@ -152,7 +172,7 @@ impl<'a> Report<'a> {
             Ended::Rejected(rejection) => rejection.line(alloc, input),
             Ended::NoCar(line) => format!(in alloc; "{input}: {line}"),
             Ended::Unreadable(error) => format!(in alloc; "cannot read {input}: {error}"),
-            Ended::Unwritable(error) => format!(in alloc; "cannot write {path}: {error}"),
+            Ended::Unwritable(error, _) => format!(in alloc; "cannot write {path}: {error}"),
             Ended::Accepted(_) | Ended::Memory => String::from_str(alloc, "memory"),
         }
     }
@@ -165,10 +185,8 @@ fn with_lines(
     skips: &[Skip],
     paths: &[Option<String>],
 ) -> Result<Vec<u8>, AllocError> {
-    let Some((job, total)) = str::from_utf8(report.as_slice())
-        .unwrap_or("")
-        .split_once('\n')
-    else {
+    let lines = str::from_utf8(report.as_slice()).unwrap_or("");
+    let (Some(job), Some(total)) = (lines.lines().next(), lines.lines().next_back()) else {
         return Ok(report);
     };
     let mut text = String::from_str(alloc, job)?;
@@ -179,13 +197,36 @@ fn with_lines(
             write!(text, " {path}")?;
         }
     }
-    write!(text, "\n{total}")?;
+    writeln!(text, "\n{total}")?;
     Ok(text.into_bytes())
+}
+
+/// Returns the result of the job of a stream that was accepted, with its skips.
+pub(crate) fn result_of(
+    alloc: Global,
+    outcome: &Outcome,
+    counts: &Received,
+) -> Result<JobResult, AllocError> {
+    let skips = copied(alloc, &outcome.skips)?;
+    Ok(result_with(outcome, counts, skips))
+}
+
+// Returns copies of skips.
+fn copied(alloc: Global, skips: &Vec<Skip>) -> Result<Vec<Skip>, AllocError> {
+    let mut copies = Vec::with_capacity(alloc, skips.len())?;
+    for skip in skips {
+        copies.push(Skip {
+            seq: skip.seq,
+            cid: skip.cid.try_clone(alloc)?,
+            verdict: skip.verdict,
+        })?;
+    }
+    Ok(copies)
 }
 
 // Returns the result of the job of a stream that was accepted, with these visits as skips. Each of its visits
 // is kept, since all its blocks are sound.
-fn result_of(outcome: &Outcome, counts: &Received, skips: Vec<Skip>) -> JobResult {
+fn result_with(outcome: &Outcome, counts: &Received, skips: Vec<Skip>) -> JobResult {
     JobResult {
         end: End::Done,
         counts: Counts {
@@ -197,4 +238,31 @@ fn result_of(outcome: &Outcome, counts: &Received, skips: Vec<Skip>) -> JobResul
         },
         skips,
     }
+}
+
+// Returns why the bytes of skips are malformed, in their order, if that is asked for: of identity CIDs, since the
+// bytes of no other skip came.
+fn causes_of(
+    alloc: Global,
+    skips: &[Skip],
+    are_asked: bool,
+) -> Result<Vec<Option<SkipCause<'static>>>, AllocError> {
+    let mut causes = Vec::new(alloc);
+    if !are_asked {
+        return Ok(causes);
+    }
+    for skip in skips {
+        let parts = skip.cid.parts();
+        let is_inline = parts.hash_function() == Some(HashFunction::Identity);
+        let fault = if is_inline && skip.verdict == Verdict::Malformed {
+            fault_in(parts.digest)
+        } else {
+            None
+        };
+        causes.push(fault.map(|fault| SkipCause {
+            words: cause_word(fault.kind),
+            offset: fault.place as u64,
+        }))?;
+    }
+    Ok(causes)
 }

@@ -25,7 +25,8 @@ its own blocks, byte for byte, and no block is missing. With --allow-missing\n\
 links to blocks of these codecs may lead to none, and the report counts them as\n\
 absent. Its header has to be the one of these roots, unless --any-header is\n\
 given. Each block comes once (dups=n), in the order of the traversal\n\
-(order=dfs), and a link that isn't read (codec dag-pb) isn't followed.\n\
+(order=dfs). Each root has to be there and sound. A link of another codec or\n\
+hash (dag-pb) isn't followed: it is a skip, which the report lists.\n\
 \n\
 A root may have a path, as in `get`, and several roots one in common. A segment\n\
 that is a number is a key or an index, so it counts twice against the depth of\n\
@@ -33,8 +34,9 @@ selectors, 128.\n\
 \n\
 The archive is written to FILE.part, which is renamed to FILE if the stream is\n\
 accepted, as in `get`, and stays otherwise, with sound sections alone. With\n\
---out - the sections go to standard output, which must not be a terminal, as\n\
-they are checked.\n\
+--whole it stays also if a link is a skip, and the status is 4. With --out - the\n\
+sections go to standard output, which must not be a terminal, as they are\n\
+checked.\n\
 \n\
 With --with the blocks of these files are here already, those whose first copy\n\
 is sound. The archive is the difference that `get --without` writes for them: a\n\
@@ -51,8 +53,9 @@ The report is that of `get`, under the name `receive`, on standard error. With\n
 line of an error is followed by the link at which the stream stopped. With\n\
 --json it is JSON: docs/JSON.md has its keys.\n\
 \n\
-Status: 0 if the archive was accepted and written, 4 if it wasn't, 2 if the\n\
-arguments are rejected or the input is no CARv1 file or can't be read.";
+Status: 0 if the archive was accepted and written, 3 if it was and has skips, 4\n\
+if it wasn't, 2 if the arguments are rejected or the input is no CARv1 file or\n\
+can't be read.";
 
 pub(crate) const FILE: ArgSpec = ArgSpec {
     name: "file",
@@ -96,6 +99,12 @@ pub(crate) const MAX_BLOCK: ArgSpec = ArgSpec {
     help: "Greatest size of a section [default: 8M]",
 };
 
+pub(crate) const WHOLE: ArgSpec = ArgSpec {
+    name: "whole",
+    given: ArgKind::Flag,
+    help: "Rename only if no link is a skip",
+};
+
 const VERBOSE: ArgSpec = ArgSpec {
     name: "verbose",
     given: ArgKind::Flag,
@@ -125,6 +134,7 @@ pub static SPEC: CommandSpec = CommandSpec {
         ANY_HEADER,
         OUT,
         MAX_BLOCK,
+        WHOLE,
         SYNC,
         NO_SYNC,
         PATHS,

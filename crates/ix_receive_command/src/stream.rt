@@ -1,9 +1,10 @@
 //! A stream that is read, checked and written piece by piece.
 
-use crate::path_watch::PathWatch;
+use crate::path_watch::{PathStop, PathWatch};
 use crate::rejection::Rejection;
-use crate::visit_paths::add_base;
-use ix_car::{CarKind, header_of};
+use crate::visit_paths::{add_base, unread_visits};
+use ix_archive::Skip;
+use ix_car::{CarKind, header_of, read_header, read_section};
 use ix_cid::read_varint;
 use ix_cli_io::Progress;
 use ix_inspect::{Kind, kind_of};
@@ -43,7 +44,8 @@ pub(crate) enum Ended {
     /// It is no CARv1 file, as this line says.
     NoCar(String),
     Unreadable(io::Error),
-    Unwritable(io::Error),
+    /// A write failed; where the header and the sections end that it had, as offsets in the stream.
+    Unwritable(io::Error, Vec<u64>),
     /// Memory ran out.
     Memory,
 }
@@ -60,6 +62,8 @@ pub(crate) struct Outcome {
     pub ended: Ended,
     pub sections: u64,
     pub bytes: u64,
+    /// The visits that are skips, of a stream that was accepted.
+    pub skips: Vec<Skip>,
     /// The blocks over which visits are reported, if a report may have any.
     pub kept: Option<Store>,
 }
@@ -127,13 +131,63 @@ impl<'s> Request<'s> {
     // Returns the blocks over which visits are reported: what was kept, and those of the base if it is asked where
     // visits are. There are none if memory runs out.
     fn with_base(&self, kept: Store) -> Option<Store> {
-        let mut blocks = kept;
-        if self.has_paths
-            && let Some(base) = self.base
-        {
-            add_base(&mut blocks, base).ok()?;
+        if self.has_paths {
+            self.with_all(kept).ok()
+        } else {
+            Some(kept)
         }
-        Some(blocks)
+    }
+
+    // Returns what was kept, and the blocks of the base.
+    fn with_all(&self, kept: Store) -> Result<Store, AllocError> {
+        let mut blocks = kept;
+        if let Some(base) = self.base {
+            add_base(&mut blocks, base)?;
+        }
+        Ok(blocks)
+    }
+
+    // Makes the outcome of a stream that was accepted and written, with its skips if it has any.
+    fn accepted(&self, written: Written, counts: Counts, kept: Store) -> Outcome {
+        if counts.unread == 0 {
+            let kept = if counts.missing > 0 {
+                self.with_base(kept)
+            } else {
+                None
+            };
+            return written.ended(Ended::Accepted(counts), Vec::new(self.alloc), kept);
+        }
+        let found = match self.with_all(kept) {
+            Ok(blocks) => match unread_visits(self.alloc, &blocks, self.job) {
+                Ok(skips) => Ok((skips, blocks)),
+                Err(error) => Err(error),
+            },
+            Err(error) => Err(error),
+        };
+        match found {
+            Ok((skips, blocks)) => written.ended(Ended::Accepted(counts), skips, Some(blocks)),
+            Err(_) => written.ended(Ended::Memory, Vec::new(self.alloc), None),
+        }
+    }
+}
+
+// How many sections and bytes were written of a stream.
+#[derive(Clone, Copy)]
+struct Written {
+    sections: u64,
+    bytes: u64,
+}
+
+impl Written {
+    // Makes the outcome of a stream that ended so.
+    fn ended(self, ended: Ended, skips: Vec<Skip>, kept: Option<Store>) -> Outcome {
+        Outcome {
+            ended,
+            sections: self.sections,
+            bytes: self.bytes,
+            skips,
+            kept,
+        }
     }
 }
 
@@ -234,10 +288,16 @@ impl<'s, W: Write + Drop> Reception<'s, W> {
         let appended = self.receiver.append_by(rt, piece, self.request.threads);
         let sections = self.receiver.sections();
         if let Some(stop) = self.paths.look(self.receiver.checked())? {
-            self.write(stop.end)?;
-            self.sections = sections.saturating_sub(stop.after);
-            let place = before.saturating_add(stop.start as u64);
-            let rejection = Rejection::of_path(alloc, place, stop.line.as_str())?;
+            let PathStop {
+                stop,
+                start,
+                end,
+                after,
+            } = stop;
+            self.write(end)?;
+            self.sections = sections.saturating_sub(after);
+            let place = before.saturating_add(start as u64);
+            let rejection = Rejection::of_path(alloc, place, stop)?;
             return Err(Ended::Rejected(rejection));
         }
         self.write(usize::MAX)?;
@@ -258,7 +318,10 @@ impl<'s, W: Write + Drop> Reception<'s, W> {
                 self.bytes = self.bytes.saturating_add(bytes.len() as u64);
                 Ok(())
             }
-            Err(error) => Err(Ended::Unwritable(error)),
+            Err(error) => {
+                let ends = ends_in(self.request.alloc, bytes, self.bytes)?;
+                Err(Ended::Unwritable(error, ends))
+            }
         }
     }
 
@@ -274,18 +337,14 @@ impl<'s, W: Write + Drop> Reception<'s, W> {
         } = self;
         drop(paths);
         drop(writer);
-        let kept = if shows_visits(&ended) {
+        let kept = if has_stopped_at(&ended) {
             let (_, kept) = receiver.finish_kept();
             request.with_base(kept)
         } else {
             None
         };
-        Outcome {
-            ended,
-            sections,
-            bytes,
-            kept,
-        }
+        let written = Written { sections, bytes };
+        written.ended(ended, Vec::new(request.alloc), kept)
     }
 
     // Ends the stream, which begins with these bytes, and flushes what was written of it.
@@ -299,34 +358,55 @@ impl<'s, W: Write + Drop> Reception<'s, W> {
             bytes,
         } = self;
         let (counts, kept) = receiver.finish_kept();
+        let written = Written { sections, bytes };
         let ended = match finished(&request, counts, &paths, bytes, front) {
             Ok(counts) => match writer.flush() {
-                Ok(()) => Ended::Accepted(counts),
-                Err(error) => Ended::Unwritable(error),
+                Ok(()) => return request.accepted(written, counts, kept),
+                Err(error) => Ended::Unwritable(error, Vec::new(request.alloc)),
             },
             Err(ended) => ended,
         };
-        let kept = if shows_visits(&ended) {
+        let kept = if has_stopped_at(&ended) {
             request.with_base(kept)
         } else {
             None
         };
-        Outcome {
-            ended,
-            sections,
-            bytes,
-            kept,
-        }
+        written.ended(ended, Vec::new(request.alloc), kept)
     }
 }
 
-// Whether a report may have visits: those of blocks that are missing, or the one at which a stream stopped.
-fn shows_visits(ended: &Ended) -> bool {
+// Whether a report may have the visit at which a stream stopped.
+fn has_stopped_at(ended: &Ended) -> bool {
     match ended {
-        Ended::Accepted(counts) => counts.missing > 0,
         Ended::Rejected(rejection) => rejection.stopped_at.is_some(),
-        Ended::NoCar(_) | Ended::Unreadable(_) | Ended::Unwritable(_) | Ended::Memory => false,
+        _ => false,
     }
+}
+
+// Returns where the header and each section end in checked bytes that begin at this offset of the stream.
+fn ends_in(alloc: Global, checked: &[u8], start: u64) -> Result<Vec<u64>, AllocError> {
+    let mut ends = Vec::new(alloc);
+    let mut rest = checked;
+    if start == 0 {
+        let Ok((_, sections)) = read_header(alloc, checked) else {
+            return Ok(ends);
+        };
+        rest = sections;
+        ends.push(end_before(checked, rest, start))?;
+    }
+    for _ in 0..checked.len() {
+        let Ok((_, after)) = read_section(rest.len(), rest) else {
+            break;
+        };
+        rest = after;
+        ends.push(end_before(checked, rest, start))?;
+    }
+    Ok(ends)
+}
+
+// Returns where, in the stream, the last bytes of some begin, which begin at this offset of it.
+fn end_before(bytes: &[u8], last: &[u8], start: u64) -> u64 {
+    start.saturating_add(bytes.len().saturating_sub(last.len()) as u64)
 }
 
 // Returns how a stream of so many bytes ended, which begins with these. Its paths have to be at their ends.
@@ -343,8 +423,8 @@ fn finished(
     };
     match paths.finish()? {
         None => Ok(counts),
-        Some(line) => {
-            let rejection = Rejection::of_path(request.alloc, bytes, line.as_str())?;
+        Some(stop) => {
+            let rejection = Rejection::of_path(request.alloc, bytes, stop)?;
             Err(Ended::Rejected(rejection))
         }
     }

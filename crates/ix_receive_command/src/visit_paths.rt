@@ -1,4 +1,5 @@
-//! The option `--paths`: where the blocks are that are missing, and where a stream stopped.
+//! Which visits of an archive are skips, and the option `--paths`: where these are, where blocks are missing,
+//! and where a stream stopped.
 
 use ix_archive::Skip;
 use ix_check::{Verdict, verdict_in};
@@ -25,21 +26,18 @@ pub(crate) struct StopPlace {
 }
 
 impl ListedVisits {
-    /// Lists no visit.
-    pub(crate) fn none(alloc: Global) -> ListedVisits {
+    /// Lists these visits, with no paths.
+    pub(crate) fn without_paths(alloc: Global, skips: Vec<Skip>) -> ListedVisits {
         ListedVisits {
-            skips: Vec::new(alloc),
+            skips,
             paths: Vec::new(alloc),
         }
     }
 
-    /// Lists the visits of a job whose blocks are missing, over what was kept of its archive.
-    pub(crate) fn of_missing(
-        alloc: Global,
-        kept: &Store,
-        job: &Job,
-    ) -> Result<ListedVisits, AllocError> {
-        let skips = missing_visits(alloc, kept, job)?;
+    /// Lists the visits of a job that are skips, and those whose blocks are missing, over what was kept of its
+    /// archive.
+    pub(crate) fn of(alloc: Global, kept: &Store, job: &Job) -> Result<ListedVisits, AllocError> {
+        let skips = visits_with(alloc, kept, job, true)?;
         let mut numbers = Vec::with_capacity(alloc, skips.len())?;
         for skip in &skips {
             numbers.push(skip.seq)?;
@@ -64,27 +62,51 @@ pub(crate) fn add_base(kept: &mut Store, base: &Store) -> Result<(), AllocError>
     Ok(())
 }
 
-// Returns the visits of a job whose blocks are missing.
-fn missing_visits(alloc: Global, kept: &Store, job: &Job) -> Result<Vec<Skip>, AllocError> {
+/// Returns the visits of a job that are skips, over what was kept of its archive: those of CIDs that aren't
+/// read, by their codec, their hash function or the bytes inline in them.
+pub(crate) fn unread_visits(
+    alloc: Global,
+    kept: &Store,
+    job: &Job,
+) -> Result<Vec<Skip>, AllocError> {
+    visits_with(alloc, kept, job, false)
+}
+
+// Returns the visits of a job that are skips, and those whose blocks are missing too if they are asked for.
+fn visits_with(
+    alloc: Global,
+    kept: &Store,
+    job: &Job,
+    has_missing: bool,
+) -> Result<Vec<Skip>, AllocError> {
     let mut skips = Vec::new(alloc);
     for item in Walk::new(alloc, kept, job, 0)? {
-        match item {
-            Ok(visit) if is_missing(&visit) => skips.push(Skip {
-                seq: visit.seq,
-                cid: visit.cid,
-                verdict: Verdict::Missing,
-            })?,
-            Ok(_) => {}
+        let visit = match item {
+            Ok(visit) => visit,
             Err(WalkStop::Limit) => break,
             Err(WalkStop::Memory) => return Err(AllocError),
+        };
+        let verdict = verdict_at(kept, &visit);
+        if !verdict.passes() && (has_missing || verdict != Verdict::Missing) {
+            skips.push(Skip {
+                seq: visit.seq,
+                cid: visit.cid,
+                verdict,
+            })?;
         }
     }
     Ok(skips)
 }
 
-// Whether the CID of a visit could have a block, and none has come.
-fn is_missing(visit: &Visit) -> bool {
-    visit.block.is_none() && matches!(bytes_needed(&visit.cid.parts()), Needed::Block(_))
+// Returns the verdict on the CID of a visit. Each block that was kept is sound.
+fn verdict_at(kept: &Store, visit: &Visit) -> Verdict {
+    match bytes_needed(&visit.cid.parts()) {
+        Needed::Nothing(verdict) => verdict,
+        // It depends on the CID alone.
+        Needed::Digest => verdict_in(kept, &visit.cid),
+        Needed::Block(_) if visit.block.is_some() => Verdict::Sound,
+        Needed::Block(_) => Verdict::Missing,
+    }
 }
 
 /// Returns the first visit of a CID by a job over what was kept of its archive, if it visits that.
