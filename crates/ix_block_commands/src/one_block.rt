@@ -4,25 +4,22 @@ use clap::ArgMatches;
 use ix_check::verdict_in;
 use ix_cid::Cid;
 use ix_cid::code::RAW;
-use ix_cli_io::{ANY_SIZE, Failure, Progress, ProgressMode};
-use ix_load::{BlockFiles, LoadedBlocks, obstacle_line, path_of};
+use ix_cli_io::{ANY_SIZE, Failure, Progress, ProgressMode, Stop};
+use ix_load::{BlockFiles, Indexed, LoadedBlocks, obstacle_stop, path_of, path_text, verdict_stop};
 use ix_options::{
     ArgKind, ArgSpec, CommandSpec, Host, QUIET_PROGRESS, available_processors, most_input,
-    print_refusal, progress_mode,
+    progress_mode,
 };
-use ix_path::{GREATEST_SEGMENTS, NodeBytes, Obstacle, RootPath, resolve};
+use ix_path::{GREATEST_SEGMENTS, NodeBytes, Obstacle, Resolution, RootPath, resolve};
 use ix_store::Store;
 use ix_verdict::Verdict;
 use std::alloc::{AllocError, Global};
-
-/// The status if there is no sound block, or if it can't be printed.
-pub(crate) const NO_BLOCK: u8 = 3;
 
 /// The block.
 pub(crate) const CID: ArgSpec = ArgSpec {
     name: "cid",
     given: ArgKind::Positional("CID[/PATH]"),
-    help: "CIDv1 in base32, and where to go from its block",
+    help: "CID in any base, and where to go from its block",
 };
 
 /// What the arguments of a command say of its one block.
@@ -61,32 +58,21 @@ impl<'a> OneBlock<'a> {
         let loaders = available_processors(rt);
         let files = self.files.read(rt, loaders, &progress);
         progress.end();
-        self.files.store_of(rt, files?, loaders)
+        self.files.store_of(rt, files?, loaders, Indexed::Alone)
     }
 
-    /// Returns where the path leads, or without a path the block of the CID; or prints to standard error why
-    /// there is nothing, and returns the status. If standard error can't be written, there is no one to report
-    /// to.
-    pub(crate) fn target_in<'b, R: AllocGlobal + Eprint>(
+    /// Returns where the path leads, or without a path the block of the CID, or why there is nothing.
+    pub(crate) fn target_in<'b>(
         &'b self,
-        rt: &R,
+        alloc: Global,
         store: &'b Store,
-    ) -> Result<Target<'b>, Result<u8, Failure>> {
+    ) -> Result<Target<'b>, Failure> {
         if self.path.segments.is_empty() {
-            return self.root_in(rt, store);
+            return self.root_in(alloc, store);
         }
-        let alloc = rt.alloc();
-        let found = match resolve(alloc, store, &self.path.root, self.path.segments.as_slice()) {
-            Ok(found) => found,
-            Err(error) => return Err(Err(Failure::from(error))),
-        };
+        let found = self.resolved_in(alloc, store)?;
         if let Err(obstacle) = &found.end {
-            let line = obstacle_line(alloc, &self.path, &found, obstacle);
-            let refused = print_refusal(rt, line);
-            return Err(match obstacle {
-                Obstacle::Block(_) => refused.map(|_| NO_BLOCK),
-                _ => refused,
-            });
+            return Err(self.stopped(alloc, store, &found, obstacle));
         }
         let mut blocks = found.blocks;
         match (blocks.pop(), found.end) {
@@ -95,45 +81,97 @@ impl<'a> OneBlock<'a> {
                 node: node.bytes(),
             }),
             // A path goes through the block of its root.
-            _ => Err(Ok(NO_BLOCK)),
+            _ => Err(self.no_block(alloc, store, Verdict::Missing, &self.path.root)),
         }
     }
 
-    // Returns the block of the CID, or prints the verdict on it.
-    fn root_in<'b, R: AllocGlobal + Eprint>(
+    /// Returns the CID of the block in which the path ends, or to which it leads at last, whatever the codec of
+    /// that block is, or why there is none.
+    pub(crate) fn last_cid_in(&self, alloc: Global, store: &Store) -> Result<Cid, Failure> {
+        if self.path.segments.is_empty() {
+            return Ok(self.path.root.try_clone(alloc)?);
+        }
+        let found = self.resolved_in(alloc, store)?;
+        match &found.end {
+            Ok(_) => {}
+            Err(Obstacle::Block(_)) if found.steps.len() == self.path.segments.len() => {}
+            Err(obstacle) => return Err(self.stopped(alloc, store, &found, obstacle)),
+        }
+        // A path goes through the block of its root.
+        let cid = found.blocks.last().unwrap_or(&self.path.root);
+        Ok(cid.try_clone(alloc)?)
+    }
+
+    /// Makes the failure for the block to which the path leads, which can't be written.
+    pub(crate) fn no_block(
+        &self,
+        alloc: Global,
+        store: &Store,
+        verdict: Verdict,
+        cid: &Cid,
+    ) -> Failure {
+        match self.stop_at(alloc, store, verdict, cid) {
+            Ok(stop) => Failure::Stopped(stop),
+            Err(error) => Failure::from(error),
+        }
+    }
+
+    // Makes the stop for the block to which the path leads.
+    fn stop_at(
+        &self,
+        alloc: Global,
+        store: &Store,
+        verdict: Verdict,
+        cid: &Cid,
+    ) -> Result<Stop, AllocError> {
+        let mut stop = verdict_stop(alloc, store, verdict, cid)?;
+        if !self.path.segments.is_empty() {
+            stop.path = Some(path_text(alloc, &self.path)?);
+        }
+        Ok(stop)
+    }
+
+    // Follows the path.
+    fn resolved_in<'b>(
         &'b self,
-        rt: &R,
+        alloc: Global,
         store: &'b Store,
-    ) -> Result<Target<'b>, Result<u8, Failure>> {
+    ) -> Result<Resolution<'b>, AllocError> {
+        resolve(alloc, store, &self.path.root, self.path.segments.as_slice())
+    }
+
+    // Makes the failure of a path that leads no further.
+    fn stopped(
+        &self,
+        alloc: Global,
+        store: &Store,
+        found: &Resolution<'_>,
+        obstacle: &Obstacle<'_>,
+    ) -> Failure {
+        match obstacle_stop(alloc, store, &self.path, found, obstacle) {
+            Ok(stop) => Failure::Stopped(stop),
+            Err(error) => Failure::from(error),
+        }
+    }
+
+    // Returns the block of the CID, or the verdict on it.
+    fn root_in<'b>(&'b self, alloc: Global, store: &'b Store) -> Result<Target<'b>, Failure> {
         let root = &self.path.root;
         let bytes = match (verdict_in(store, root), store.find(root)) {
             (Verdict::Inline, _) => root.digest(),
             (Verdict::Sound, Some(place)) if place < store.len() => store.bytes(place),
-            (verdict, _) => {
-                let refused = print_refusal(rt, verdict_line(rt.alloc(), verdict, root));
-                return Err(refused.map(|_| NO_BLOCK));
-            }
+            (verdict, _) => return Err(self.no_block(alloc, store, verdict, root)),
         };
         let node = if root.codec() == RAW {
             NodeBytes::Raw(bytes)
         } else {
             NodeBytes::DagCbor(bytes)
         };
-        match root.try_clone(rt.alloc()) {
-            Ok(cid) => Ok(Target { cid, node }),
-            Err(error) => Err(Err(Failure::from(error))),
-        }
+        Ok(Target {
+            cid: root.try_clone(alloc)?,
+            node,
+        })
     }
-}
-
-/// Makes the line for a block that isn't sound.
-pub(crate) fn verdict_line(
-    alloc: Global,
-    verdict: Verdict,
-    cid: &Cid,
-) -> Result<String, AllocError> {
-    let cid = cid.text(alloc)?;
-    format!(in alloc; "{verdict} {cid}")
 }
 
 /// Where a path leads.

@@ -1,21 +1,26 @@
 //! The command `show`: one block as DAG-JSON.
 
-use crate::one_block::{CID, NO_BLOCK, OneBlock, Target, verdict_line};
+use crate::one_block::{CID, OneBlock, Target};
 use clap::ArgMatches;
-use ix_cli_io::Failure;
+use ix_cli_io::{ErrorCode, Failure, Stop, check_standard_output};
 use ix_dag_json::{DagJsonFault, Layout, Part, escape_hidden, text_of_block, text_of_bytes};
 use ix_load::forget_store;
 use ix_options::{
-    ArgKind, ArgSpec, BLOCKS, CARV2, CommandSpec, Host, MAX_INPUT, PREFER_SOUND, PROGRESS,
-    QUIET_PROGRESS, Terminals, print_all, print_notes, print_refusal,
+    ArgKind, ArgSpec, BLOCKS, CARV2, CommandSpec, Host, JSON_ERRORS, MAX_INPUT, PREFER_SOUND,
+    PROGRESS, QUIET_PROGRESS, Terminals, print_all,
 };
 use ix_path::NodeBytes;
+use ix_store::Store;
 use ix_verdict::Verdict;
 use std::alloc::{AllocError, Global};
 use std::fmt::Write;
+use std::rt::Files;
 
 // How many bytes of a raw block a terminal shows.
 const FIRST_BYTES: usize = 64;
+
+// How many bytes a terminal gets at a time, at least.
+const PIECE: usize = 65_536;
 
 const ABOUT: &str = "Print one block, or what a path leads to, as DAG-JSON";
 
@@ -36,17 +41,19 @@ and in strings what it would hide or obey is escaped.\n\
 \n\
 If the block is missing, damaged or malformed, or if its codec is neither raw\n\
 nor DAG-CBOR or its hash neither SHA-256, SHA-512 nor identity, nothing is\n\
-printed, and a line on standard error has the verdict and the CID. An identity\n\
-CID has its block in it. Of several copies of the block the first counts, or\n\
-with --prefer-sound the first that is sound.\n\
+printed, and a line on standard error has the verdict and the CID, and of a\n\
+malformed block the first error and its offset. An identity CID has its block in\n\
+it. Of several copies of the block the first counts, or with --prefer-sound the\n\
+first that is sound.\n\
 \n\
 DAG-JSON can't express text or a key that is not UTF-8, nor a map with the key\n\
 \"/\". Of a block with such a part nothing is printed either, and a line on\n\
 standard error has the CID, the path to the part, and the reason.\n\
 \n\
-Status: 0 if it was printed, 3 if there is no sound block or DAG-JSON can't\n\
-express it, 2 if the arguments or a file are rejected or a segment isn't there,\n\
-with a line on standard error that has the cause.";
+Status: 0 if it was printed, 3 if there is no sound block, a segment isn't there\n\
+or DAG-JSON can't express it, 2 if the arguments or a file are rejected, with a\n\
+line on standard error that has the cause. With --json an object follows it:\n\
+docs/JSON.md has its keys.";
 
 const PRETTY: ArgSpec = ArgSpec {
     name: "pretty",
@@ -66,6 +73,7 @@ pub static SPEC: CommandSpec = CommandSpec {
         MAX_INPUT,
         CARV2,
         PREFER_SOUND,
+        JSON_ERRORS,
         PROGRESS,
         QUIET_PROGRESS,
     ],
@@ -84,9 +92,9 @@ pub fn run<'a, R: Host>(
         is_indented: terminals.output || PRETTY.is_given(words),
     };
     let blocks = block.load(rt)?;
-    let status = match block.target_in(rt, &blocks.store) {
-        Ok(target) => show(rt, &block, &target, form),
-        Err(status) => status,
+    let status = match block.target_in(rt.alloc(), &blocks.store) {
+        Ok(target) => show(rt, &blocks.store, &block, &target, form),
+        Err(failure) => Err(failure),
     };
     blocks.print_note(rt, &status);
     forget_store(blocks.store);
@@ -101,45 +109,61 @@ struct Form {
 }
 
 // Prints a node, or why DAG-JSON can't express it, and returns the status.
-fn show<R: AllocGlobal + Eprint + Print>(
+fn show<R: AllocGlobal + Files + Print>(
     rt: &R,
+    store: &Store,
     block: &OneBlock<'_>,
     target: &Target<'_>,
     form: Form,
 ) -> Result<u8, Failure> {
+    check_standard_output(rt, block.files.paths())?;
     let text = match text_of(rt.alloc(), target.node, form) {
         Ok(text) => text,
         Err(DagJsonFault::Memory) => return Err(Failure::from(AllocError)),
         Err(DagJsonFault::Part(part)) => {
-            print_notes(rt, part_line(rt.alloc(), block, &part));
-            return Ok(NO_BLOCK);
+            return Err(Failure::Stopped(part_stop(rt.alloc(), block, target, &part)?));
         }
         // A sound block decodes, so this doesn't happen.
         Err(DagJsonFault::Block(_)) => {
-            let line = verdict_line(rt.alloc(), Verdict::Malformed, &target.cid);
-            return print_refusal(rt, line).map(|_| NO_BLOCK);
+            return Err(block.no_block(rt.alloc(), store, Verdict::Malformed, &target.cid));
         }
     };
-    print_all(rt, text.as_bytes()).map(|()| 0)
+    if form.is_terminal {
+        print_escaped(rt, text.as_str())?;
+    } else {
+        print_all(rt, text.as_bytes())?;
+        print_all(rt, b"\n")?;
+    }
+    Ok(0)
 }
 
-// Returns what is printed of a node, with a line end.
+// Prints text with a line end, escaped piece by piece, so that no copy of all of it is made.
+fn print_escaped<R: AllocGlobal + Files + Print>(rt: &R, text: &str) -> Result<(), Failure> {
+    let alloc = rt.alloc();
+    let mut piece = String::new(alloc);
+    for line in text.split('\n') {
+        piece.push_str(line)?;
+        piece.push('\n')?;
+        if piece.len() >= PIECE {
+            print_all(rt, escape_hidden(alloc, piece.as_str())?.as_bytes())?;
+            piece.clear();
+        }
+    }
+    print_all(rt, escape_hidden(alloc, piece.as_str())?.as_bytes())
+}
+
+// Returns what is printed of a node, without a line end, and before anything is escaped for a terminal.
 fn text_of(alloc: Global, node: NodeBytes<'_>, form: Form) -> Result<String, DagJsonFault> {
     let layout = if form.is_indented {
         Layout::Indented
     } else {
         Layout::Compact
     };
-    let mut text = match node {
-        NodeBytes::DagCbor(bytes) => text_of_block(alloc, bytes, layout)?,
-        NodeBytes::Raw(bytes) if form.is_terminal => raw_text(alloc, bytes)?,
-        NodeBytes::Raw(bytes) => text_of_bytes(alloc, bytes, layout)?,
-    };
-    if form.is_terminal {
-        text = escape_hidden(alloc, text.as_str())?;
+    match node {
+        NodeBytes::DagCbor(bytes) => text_of_block(alloc, bytes, layout),
+        NodeBytes::Raw(bytes) if form.is_terminal => Ok(raw_text(alloc, bytes)?),
+        NodeBytes::Raw(bytes) => Ok(text_of_bytes(alloc, bytes, layout)?),
     }
-    text.push('\n')?;
-    Ok(text)
 }
 
 // Returns the size of a raw block, and its first bytes in hex.
@@ -154,10 +178,19 @@ fn raw_text(alloc: Global, bytes: &[u8]) -> Result<String, AllocError> {
     Ok(text)
 }
 
-// Returns the line for a part of a node that DAG-JSON can't express.
-fn part_line(alloc: Global, block: &OneBlock<'_>, part: &Part) -> Result<String, AllocError> {
-    let given = block.text.trim_end_matches('/');
-    let path = part.path_text(alloc)?;
+// Makes the stop for a part of a node that DAG-JSON can't express.
+fn part_stop(
+    alloc: Global,
+    block: &OneBlock<'_>,
+    target: &Target<'_>,
+    part: &Part,
+) -> Result<Stop, AllocError> {
+    let given = escape_hidden(alloc, block.text.trim_end_matches('/'))?;
+    let path = format!(in alloc; "{given}{}", part.path_text(alloc)?)?;
     let reason = part.reason(alloc)?;
-    format!(in alloc; "{given}{path}: DAG-JSON can't express {reason}\n")
+    let line = format!(in alloc; "{}: DAG-JSON can't express {reason}", path.as_str())?;
+    let mut stop = Stop::new(ErrorCode::DagJson, line);
+    stop.cid = Some(target.cid.text(alloc)?);
+    stop.path = Some(path);
+    Ok(stop)
 }
