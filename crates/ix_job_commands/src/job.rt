@@ -2,15 +2,21 @@
 
 use clap::ArgMatches;
 use clap::error::ErrorKind;
+use ix_cid::Cid;
+use ix_cid::code::DAG_PB;
 use ix_cli_io::{
-    ANY_SIZE, Failure, LARGEST_INPUT, Progress, ProgressMode, STANDARD_INPUT, read_all,
+    ANY_SIZE, ErrorCode, Failure, LARGEST_INPUT, Progress, ProgressMode, STANDARD_INPUT, Stop,
+    read_all,
 };
 use ix_job_errors::line_fault_words;
 use ix_job_line::{JobWords, SelectorWord, job_line_up_to, jobs_of_words, selector_hex};
-use ix_load::{BlockFiles, LoadedBlocks, RootPaths, Roots, SCOPE, Scope, Unresolved, forget_store};
+use ix_load::{
+    BlockFiles, Indexed, LoadedBlocks, RootPaths, Roots, SCOPE, Scope, Unresolved, forget_store,
+    roots_text,
+};
 use ix_options::{
     ArgKind, ArgSpec, CARV2, CommandSpec, Host, MAX_INPUT, MAX_LIMIT, PREFER_SOUND, QUIET_ACCEPTED,
-    available_processors, most_input, print_answer, print_refusal,
+    available_processors, most_input, print_answer,
 };
 use std::alloc::{AllocError, Global};
 
@@ -27,8 +33,8 @@ followed in the files of --blocks, and the selector of the line goes along it.\n
 Then JSON is the selector from its end, everything without JSON, or with --scope\n\
 block the block in which the path ends alone.\n\
 \n\
-Status: 0 if a line was printed, 2 if an argument is rejected or a path leads no\n\
-further, with a line on standard error that says why.";
+Status: 0 if a line was printed, 3 if a path leads no further, 2 if an argument\n\
+or a file is rejected, with a line on standard error that says why.";
 
 const NAME: ArgSpec = ArgSpec {
     name: "name",
@@ -39,7 +45,7 @@ const NAME: ArgSpec = ArgSpec {
 const ROOTS: ArgSpec = ArgSpec {
     name: "roots",
     given: ArgKind::Positional("ROOT[,ROOT..]"),
-    help: "1 to 64 comma-separated CIDv1s, or CID/PATH",
+    help: "1 to 64 comma-separated CIDs, or CID/PATH",
 };
 
 const LIMIT: ArgSpec = ArgSpec {
@@ -102,11 +108,16 @@ pub fn run<'a, R: Host>(rt: &R, words: &ArgMatches<'a>) -> Result<u8, Failure> {
 fn print_job<'a, R: Host>(
     rt: &R,
     words: &ArgMatches<'a>,
-    roots: &Roots<'_>,
+    roots: &Roots,
     scope: Scope,
     json: Option<&[u8]>,
 ) -> Result<u8, Failure> {
-    let text = roots.text(rt.alloc())?;
+    let cids = roots.cids(rt.alloc())?;
+    if let Some(root) = cids.iter().find(|root| root.version() == 0) {
+        let line = version_0_words(rt.alloc(), root);
+        return Err(Failure::stopped(ErrorCode::Job, line));
+    }
+    let text = roots_text(rt.alloc(), cids.as_slice())?;
     match (roots, json) {
         (Roots::Paths(paths), _) if paths.leads_on() => {
             print_line_along(rt, words, paths, scope, json)
@@ -114,6 +125,20 @@ fn print_job<'a, R: Host>(
         (_, Some(json)) => print_line(rt, words, text.as_str(), json),
         (_, None) => Err(Failure::from(no_selector(rt.alloc())?)),
     }
+}
+
+// Returns why a CIDv0 is no root in a job file.
+fn version_0_words(alloc: Global, root: &Cid) -> Result<String, AllocError> {
+    let mut bytes = Vec::from_slice(alloc, &[1, DAG_PB as u8])?;
+    bytes.extend_from_slice(root.as_bytes())?;
+    let hint = match Cid::read(alloc, bytes.as_slice()) {
+        Ok((cid, _)) => cid.text(alloc)?,
+        Err(_) => return Err(AllocError),
+    };
+    format!(in alloc;
+        "ROOT: {} is a CIDv0, and a job file has CIDv1s alone: the CIDv1 of the same hash is {hint}",
+        root.text(alloc)?
+    )
 }
 
 // Makes the error for a job without a selector, whose roots have no path.
@@ -126,7 +151,7 @@ fn no_selector(alloc: Global) -> Result<clap::Error, AllocError> {
 }
 
 // Prints the line of the job with this selector, or why the arguments aren't those of a job.
-fn print_line<'a, R: AllocGlobal + Eprint + Print>(
+fn print_line<'a, R: AllocGlobal + Print>(
     rt: &R,
     words: &ArgMatches<'a>,
     roots: &str,
@@ -139,7 +164,7 @@ fn print_line<'a, R: AllocGlobal + Eprint + Print>(
         Ok(line) => print_answer(rt, Ok(line)),
         Err(fault) => {
             let words = line_fault_words(alloc, &fault, name, roots, limit, greatest);
-            print_refusal(rt, words)
+            Err(Failure::stopped(ErrorCode::Job, words))
         }
     }
 }
@@ -157,8 +182,11 @@ fn print_line_along<'a, R: Host>(
     forget_store(blocks.store);
     match line {
         Ok(line) => print_answer(rt, Ok(line)),
-        Err(Unresolved::Line(line)) => print_refusal(rt, Ok(line)),
-        Err(Unresolved::TooDeep) => { print_refusal(rt, String::from_str(rt.alloc(), TOO_DEEP)) }
+        Err(Unresolved::Stopped(stop)) => Err(Failure::Stopped(stop)),
+        Err(Unresolved::TooDeep) => {
+            let line = String::from_str(rt.alloc(), TOO_DEEP);
+            Err(Failure::stopped(ErrorCode::Path, line))
+        }
         Err(Unresolved::Memory) => Err(Failure::from(AllocError)),
     }
 }
@@ -179,7 +207,7 @@ fn load<'a, R: Host>(rt: &R, words: &ArgMatches<'a>) -> Result<LoadedBlocks, Fai
     let progress = Progress::new(rt, ProgressMode::Off);
     let loaders = available_processors(rt);
     let bytes = files.read(rt, loaders, &progress)?;
-    files.store_of(rt, bytes, loaders)
+    files.store_of(rt, bytes, loaders, Indexed::Alone)
 }
 
 // Returns the line of the job whose roots have a path: its selector goes along the path.
@@ -191,21 +219,22 @@ fn line_along<'a>(
     selector: SelectorWord<'_>,
 ) -> Result<String, Unresolved> {
     let (name, limit) = (NAME.text(words), LIMIT.text(words));
-    let roots = paths.roots_text(alloc)?;
+    let cids = paths.cids(alloc)?;
+    let roots = roots_text(alloc, cids.as_slice())?;
     let greatest_limit = MAX_LIMIT.limit(words);
     let hex = match selector_hex(alloc, &selector) {
         Ok(inner) => paths.selector_hex(alloc, &blocks.store, &selector, inner.trim_end())?,
         Err(fault) => {
             let line = line_fault_words(alloc, &fault, name, roots.as_str(), limit, greatest_limit);
-            return Err(Unresolved::Line(line?));
+            return Err(Unresolved::Stopped(Stop::new(ErrorCode::Job, line?)));
         }
     };
-    let job = words_of(name, roots.as_str(), limit, greatest_limit, hex.as_str());
+    let job = words_of(name, cids.as_slice(), limit, greatest_limit, hex.as_str());
     match jobs_of_words(alloc, &job, false) {
         Ok(_) => Ok(format!(in alloc; "{name} {roots} {limit} {hex}\n")?),
         Err(fault) => {
             let line = line_fault_words(alloc, &fault, name, roots.as_str(), limit, greatest_limit);
-            Err(Unresolved::Line(line?))
+            Err(Unresolved::Stopped(Stop::new(ErrorCode::Job, line?)))
         }
     }
 }
@@ -213,7 +242,7 @@ fn line_along<'a>(
 // Returns the fields of a job whose selector is in hex.
 fn words_of<'b>(
     name: &'b str,
-    roots: &'b str,
+    roots: &'b [Cid],
     limit: &'b str,
     greatest_limit: u32,
     hex: &'b str,

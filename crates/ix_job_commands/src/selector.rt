@@ -1,9 +1,10 @@
 //! The command `selector`: converts a selector from JSON to hex, or back.
 
 use clap::ArgMatches;
-use ix_cli_io::{Failure, LARGEST_INPUT, STANDARD_INPUT, read_all};
-use ix_options::{ArgKind, ArgSpec, CommandSpec, QUIET_ACCEPTED, print_answer, print_refusal};
+use ix_cli_io::{ErrorCode, Failure, LARGEST_INPUT, STANDARD_INPUT, read_all};
+use ix_options::{ArgKind, ArgSpec, CommandSpec, QUIET_ACCEPTED, print_answer};
 use ix_selector_json::{hex_fault_line, hex_of_json, json_fault_line, json_of_hex};
+use std::alloc::AllocError;
 
 const ABOUT: &str = "Convert a selector from JSON to hex, or back";
 
@@ -44,7 +45,7 @@ pub fn run<'a, R: AllocGlobal + Eprint + Input + Print>(
     match (HEX.optional_text(words), JSON.optional_text(words)) {
         (Some(text), _) => match json_of_hex(rt.alloc(), text) {
             Ok(line) => print_answer(rt, Ok(line)),
-            Err(fault) => print_refusal(rt, hex_fault_line(rt.alloc(), &fault, text)),
+            Err(fault) => Err(refused(hex_fault_line(rt.alloc(), &fault, text))),
         },
         (None, Some(text)) if text != STANDARD_INPUT => print_hex(rt, text.as_bytes()),
         _ => {
@@ -58,6 +59,11 @@ pub fn run<'a, R: AllocGlobal + Eprint + Input + Print>(
 fn print_hex<R: AllocGlobal + Eprint + Print>(rt: &R, text: &[u8]) -> Result<u8, Failure> {
     match hex_of_json(rt.alloc(), text) {
         Ok(line) => print_answer(rt, Ok(line)),
-        Err(fault) => print_refusal(rt, json_fault_line(rt.alloc(), &fault, text)),
+        Err(fault) => Err(refused(json_fault_line(rt.alloc(), &fault, text))),
     }
+}
+
+// Makes the failure for a text that is no selector, with this line.
+fn refused(line: Result<String, AllocError>) -> Failure {
+    Failure::stopped(ErrorCode::Job, line)
 }
