@@ -1,7 +1,8 @@
 //! The commands as a table, and the command line made of it.
 
-use clap::Command;
+use clap::{ArgMatches, Command};
 use ix_block_commands::{block, show};
+use ix_cli_io::Failure;
 use ix_export_commands::{get, jobs, root};
 use ix_file_commands::{inspect, verify};
 use ix_job_commands::{check_jobs, job, selector};
@@ -54,6 +55,34 @@ fn push_commands<'a>(alloc: Global, commands: &mut Vec<Command<'a>>) -> Result<(
     ];
     for spec in table {
         push_command(commands, command_of(alloc, spec))?;
+    }
+    Ok(())
+}
+
+/// Rejects a number with a sign among the arguments of the command of this name.
+// The table stands in both functions: one that returned it would take more steps than a proof may.
+pub(crate) fn check_numbers<'a>(
+    alloc: Global,
+    name: &str,
+    words: &ArgMatches<'a>,
+) -> Result<(), Failure> {
+    let table = [
+        &get::SPEC,
+        &jobs::SPEC,
+        &job::SPEC,
+        &check_jobs::SPEC,
+        &selector::SPEC,
+        &root::SPEC,
+        &block::SPEC,
+        &show::SPEC,
+        &inspect::SPEC,
+        &verify::SPEC,
+        &receive::SPEC,
+    ];
+    for spec in table {
+        if spec.name == name {
+            spec.check_numbers(alloc, words)?;
+        }
     }
     Ok(())
 }

@@ -15,18 +15,32 @@ mod arguments;
 mod commands;
 
 use crate::arguments::read_arguments;
-use crate::commands::command_line;
+use crate::commands::{check_numbers, command_line};
 use clap::ArgMatches;
 use ix_block_commands::{block, show};
-use ix_cli_io::{Causes, Failure, Help, REFUSED};
+use ix_cli_io::{Causes, Failure, Help, REFUSED, print_report};
 use ix_export_commands::{get, jobs, root};
 use ix_file_commands::{inspect, verify};
 use ix_job_commands::{check_jobs, job, selector};
-use ix_options::{Host, Terminals, VERBOSE};
+use ix_options::{Host, JSON, Terminals, VERBOSE, failure_object, print_all};
 use ix_receive_command::receive;
 use ix_run::RunFault;
 use std::io::IsTerminal;
 use std::process::ExitCode;
+
+// The commands that report as JSON, and those of them whose report goes to standard error.
+const JSON_COMMANDS: [&str; 8] = [
+    "get",
+    "jobs",
+    "receive",
+    "inspect",
+    "verify",
+    "check-jobs",
+    "block",
+    "show",
+];
+
+const STDERR_COMMANDS: [&str; 4] = ["get", "receive", "block", "show"];
 
 fn main(rt: HostRuntime) -> ExitCode {
     let terminals = Terminals {
@@ -40,8 +54,7 @@ fn main(rt: HostRuntime) -> ExitCode {
     ExitCode::from(status)
 }
 
-// Runs the command that these arguments name, and returns the status. Its failure is reported with the
-// cause; those of `jobs` and `root` have one line, and the cause on a second with `--verbose`.
+// Runs the command that these arguments name, and returns the status.
 fn run_command<R: Host + Copy + Send + 'static>(
     rt: &R,
     words: &[String],
@@ -53,28 +66,84 @@ where
     let Ok(commands) = command_line(rt.alloc()) else {
         return Failure::Fault(RunFault::Memory).report(rt, Causes::Hidden);
     };
-    let (outcome, causes) = match commands.try_get_matches_from(words) {
-        Err(error) => (print_help(rt, error), Causes::Hidden),
-        Ok(matches) => match matches.subcommand() {
-            Some(("get", words)) => (get::run(rt, words, terminals), Causes::Beside),
-            Some(("jobs", words)) => (jobs::run(rt, words, terminals.errors), causes_of(words)),
-            Some(("job", words)) => (job::run(rt, words), Causes::Beside),
-            Some(("check-jobs", words)) => (check_jobs::run(rt, words), Causes::Beside),
-            Some(("selector", words)) => (selector::run(rt, words), Causes::Beside),
-            Some(("block", words)) => (block::run(rt, words, terminals), Causes::Beside),
-            Some(("show", words)) => (show::run(rt, words, terminals), Causes::Beside),
-            Some(("inspect", words)) => (inspect::run(rt, words), Causes::Beside),
-            Some(("verify", words)) => (verify::run(rt, words, terminals.errors), Causes::Beside),
-            Some(("receive", words)) => (receive::run(rt, words, terminals), Causes::Beside),
-            Some((_, words)) => (root::run(rt, words), causes_of(words)),
-            // The command line requires a command.
-            None => (Ok(REFUSED), Causes::Hidden),
+    match commands.try_get_matches_from(words) {
+        Err(error) => match print_help(rt, error) {
+            Ok(status) => status,
+            Err(failure) => failure.report(rt, Causes::Hidden),
         },
-    };
-    match outcome {
-        Ok(status) => status,
-        Err(failure) => failure.report(rt, causes),
+        Ok(matches) => match matches.subcommand() {
+            Some((name, words)) => run_named(rt, name, words, terminals),
+            // The command line requires a command.
+            None => REFUSED,
+        },
     }
+}
+
+// Runs the command of this name, reports its failure, and returns its status.
+fn run_named<'a, R: Host + Copy + Send + 'static>(
+    rt: &R,
+    name: &str,
+    words: &ArgMatches<'a>,
+    terminals: Terminals,
+) -> u8
+where
+    R::Reader: Send + 'static,
+{
+    if let Err(failure) = check_numbers(rt.alloc(), name, words) {
+        return failure.report(rt, Causes::Hidden);
+    }
+    match outcome_of(rt, name, words, terminals) {
+        Ok(status) => status,
+        Err(failure) => report(rt, name, words, failure.at(rt, name)),
+    }
+}
+
+// Runs the command of this name.
+fn outcome_of<'a, R: Host + Copy + Send + 'static>(
+    rt: &R,
+    name: &str,
+    words: &ArgMatches<'a>,
+    terminals: Terminals,
+) -> Result<u8, Failure>
+where
+    R::Reader: Send + 'static,
+{
+    match name {
+        "get" => get::run(rt, words, terminals),
+        "jobs" => jobs::run(rt, words, terminals.errors),
+        "job" => job::run(rt, words),
+        "check-jobs" => check_jobs::run(rt, words),
+        "selector" => selector::run(rt, words),
+        "block" => block::run(rt, words, terminals),
+        "show" => show::run(rt, words, terminals),
+        "inspect" => inspect::run(rt, words),
+        "verify" => verify::run(rt, words, terminals.errors),
+        "receive" => receive::run(rt, words, terminals),
+        _ => root::run(rt, words),
+    }
+}
+
+// Reports the failure of the command of this name, and returns its status. It is reported with the cause; those of
+// `jobs` and `root` have one line, and the cause on a second with `--verbose`. With `--json` an object follows, where
+// the report of the command goes.
+fn report<'a, R: Host>(rt: &R, name: &str, words: &ArgMatches<'a>, failure: Failure) -> u8 {
+    let causes = match name {
+        "jobs" | "root" => causes_of(words),
+        _ => Causes::Beside,
+    };
+    let status = failure.report(rt, causes);
+    if !JSON_COMMANDS.contains(&name) || !JSON.is_given(words) {
+        return status;
+    }
+    if let Ok(Some(object)) = failure_object(rt.alloc(), &failure) {
+        if STDERR_COMMANDS.contains(&name) {
+            print_report(rt, object.as_slice());
+        } else {
+            // If standard output can't be written, there is no one to report to.
+            let _ = print_all(rt, object.as_slice());
+        }
+    }
+    status
 }
 
 // Prints the help or the version, if the arguments asked for it.
