@@ -25,12 +25,13 @@ ran_out (Unfinished fault) = is_memory fault
 ran_out Memory = true
 ran_out reason = false
 
--- the block that is missing, or else this section
+-- the block that is missing, or the root that can't be exported, or else this section
 abbrev pub missing_or : Option (List ℕ) → ReceiveFault → Option (List ℕ)
 missing_or section (received.Missing c) = Some c
+missing_or section (received.Root c v) = Some c
 missing_or section fault = section
 
--- the block that is missing, or else the section that is refused, if it is one of these
+-- the block that is missing, or the root that can't be exported, or else the section that is refused, if it is one of these
 abbrev pub blamed : ArchiveReason → Option (List ℕ)
 blamed (Refused c fault) = missing_or (Some c) fault
 blamed (Unfinished fault) = missing_or None fault

@@ -64,8 +64,8 @@ fn reject(alloc: Global, fault: ArchiveFault) -> Result<Rejection, AllocError>
     })
 }
 
-// Returns the CID of the block that is missing, or else of the section that is refused, if it is one of
-// these. Fails if memory ran out.
+// Returns the CID of the block that is missing, or of the root that can't be exported, or else of the
+// section that is refused, if it is one of these. Fails if memory ran out.
 fn blamed(reason: ArchiveReason) -> Result<Option<Cid>, AllocError>
     ensures found { IfOk result (IsBlamed reason) }
     ensures memory { OnErr result (ran_out reason ≡ true) }
@@ -80,13 +80,14 @@ fn blamed(reason: ArchiveReason) -> Result<Option<Cid>, AllocError>
     }
 }
 
-// Returns the CID of the block that is missing, or else this section's. Fails if memory ran out.
+// Returns the CID of the block that is missing, or of the root that can't be exported, or else this
+// section's. Fails if memory ran out.
 fn missing_or(fault: ReceiveFault, section: Option<Cid>) -> Result<Option<Cid>, AllocError>
     ensures found { IfOk result (IsMissingOr section fault) }
     ensures memory { OnErr result (is_memory fault ≡ true) }
 {
     match fault {
-        ReceiveFault::Missing(cid) => Ok(Some(cid)),
+        ReceiveFault::Missing(cid) | ReceiveFault::Root(cid, _) => Ok(Some(cid)),
         ReceiveFault::Memory => Err(AllocError),
         ReceiveFault::Unsound(_)
         | ReceiveFault::InBase
