@@ -1,7 +1,7 @@
 #!/usr/bin/env bash
 # Tests ./ix_export, tools/build, tools/dist, .ci/compare and .ci/passed in a small tree with a toolchain that only pretends:
 # which program is taken, when one is built, what is rejected, that no failure costs the program that is there, and what CI
-# notes. It proves nothing, and takes some seconds. Ends with status 1 at the first that is wrong.
+# notes. It proves nothing, and takes half a minute. Ends with status 1 at the first that is wrong.
 set -Eeuo pipefail
 export LC_ALL=C
 
@@ -135,6 +135,50 @@ called() {
 
 never_called() {
   expect_lines 'calls of rt' '' "$state/calls"
+}
+
+# built_files FILE..: what is in build/, but for what ./ix_export notes there.
+built_files() {
+  rm -f build/compared
+  expect_folder build "$@"
+}
+
+# Runs the program until what was found is noted anew, which waits until no file is younger than two seconds.
+noted() {
+  local tries=0
+  rm -f build/compared
+  until [ -e build/compared ]; do
+    tries=$((tries + 1))
+    [ "$tries" -lt 40 ] || fail 'build/compared, which is never there' /dev/null /dev/null
+    sleep 0.3
+    run a
+  done
+}
+
+# sums_by COMMAND: from here on files are hashed by this command, until sums_as_before.
+sums_by() {
+  mkdir -p "$scratch/sums"
+  printf '#!/bin/sh\n%s\n' "$1" >"$scratch/sums/sha256sum"
+  chmod +x "$scratch/sums/sha256sum"
+  path=$scratch/sums:$path
+}
+
+sums_as_before() {
+  path=${path#"$scratch/sums:"}
+}
+
+# compares: where no file can be hashed, the program isn't taken.
+compares() {
+  run a
+  [ "$status" -ne 0 ] || fail 'status: the files are not compared' /dev/null "$scratch/stdout"
+}
+
+# change FILE TEXT: changes a file under its old mtime.
+change() {
+  cp -p "$1" before
+  printf '%s\n' "$2" >"$1"
+  touch -r before "$1"
+  expect_text "bytes and mtime of $1" "$(find before -printf '%s %t')" "$(find "$1" -printf '%s %t')"
 }
 
 # What a build asks of rt in order, where no crate is checked beside others.
@@ -289,7 +333,21 @@ rm -r build
 without_rt
 run a
 answers 2 ''
-says "can't be run here"
+says "can't be run here: it needs Linux on x86-64 with glibc 2.34 or later (Debian 12, "
+
+tree 'a program in dist/ that the loader rejects: its own line, and what is needed'
+printf '#!/bin/sh\necho "$0: libc.so.6: version GLIBC_2.34 not found" >&2\nexit 1\n' >"dist/$name"
+(cd dist && sha256sum "$name" sources KIT >SHA256SUMS)
+without_rt
+run a
+answers 2 ''
+says "dist/$name: libc.so.6: version GLIBC_2.34 not found"
+says "can't be run here: it needs Linux on x86-64 with glibc 2.34 or later (Debian 12, "
+path=$scratch/kit/bin:$scratch/tools
+run a
+answers 0 'built: a'
+says "dist/$name: libc.so.6: version GLIBC_2.34 not found"
+says "can't be run here: it needs Linux on x86-64 with glibc 2.34 or later (Debian 12, "
 
 tree 'a build that fails costs nothing'
 printf x >>crates/ix_low/src/lib.rt
@@ -308,7 +366,7 @@ done
 for file in "$name" sources KIT SHA256SUMS; do
   expect_same "build/$file" "before/$file" "build/$file"
 done
-expect_folder build KIT SHA256SUMS "$name" lock log sources
+built_files KIT SHA256SUMS "$name" lock log sources
 title='and the next one that passes replaces it'
 rm "$state/fails"
 run a
@@ -326,7 +384,7 @@ echo 'echo more >>"$(cat "$state/tree")/crates/ix_low/src/lib.rt"' >"$state/duri
 run a
 answers 2 ''
 says 'a source was changed while the program was built'
-expect_folder build lock log
+built_files lock log
 
 tree 'to prove and build here, whatever dist/ has'
 run --prove a
@@ -341,6 +399,68 @@ answers 0 "$scratch/tree/build/$name"
 run a
 answers 0 'built: a'
 silent
+
+tree 'what was found is noted: the next run reads no file'
+noted
+sums_by 'exit 1'
+run b
+answers 0 'dist: b'
+silent
+title='a source that is added, and a folder of sources: they are compared'
+echo more >crates/ix_low/src/more.rt
+compares
+rm crates/ix_low/src/more.rt
+run b
+answers 0 'dist: b'
+mkdir crates/ix_low/specs
+echo more >crates/ix_low/specs/more.antt
+compares
+rm -r crates/ix_low/specs
+run b
+answers 0 'dist: b'
+title='to prove here: the program in dist/ is not taken'
+run --prove a
+[ "$status" -ne 0 ] || fail 'status' /dev/null "$scratch/stdout"
+title='a source that is moved away'
+mv crates/ix_side/src/lib.rt .
+compares
+
+tree 'a source that is changed under its old mtime: the program is built'
+noted
+change crates/ix_low/src/lib.rt wol
+run a
+answers 0 'built: a'
+title='a program that is changed under its old mtime: it is built anew'
+noted
+sums_by 'exit 1'
+run b
+answers 0 'built: b'
+sums_as_before
+change "build/$name" "$(tr b B <"build/$name")"
+run a
+answers 0 'built: a'
+called "${all_of[@]}" "${all_of[@]}"
+
+tree 'a source that is changed after it was hashed: nothing is noted'
+noted
+rm build/compared
+sums_by "'$scratch/tools/sha256sum' \"\$@\" && echo wol >'$PWD/crates/ix_low/src/lib.rt'"
+run a
+answers 0 'dist: a'
+sums_as_before
+run a
+answers 0 'built: a'
+
+tree 'where nothing can be noted, the files are compared each time'
+: >build
+run a
+answers 0 'dist: a'
+silent
+printf x >>crates/ix_low/src/lib.rt
+without_rt
+run a
+answers 2 ''
+says "dist/$name is of other sources"
 
 tree 'the program in build/ with a byte changed: it is built anew'
 run --prove
@@ -393,7 +513,7 @@ kill "$building"
 since=$SECONDS
 wait "$building" || true
 expect_text 'seconds until it ended' 'few' "$([ $((SECONDS - since)) -lt 300 ] && echo few || echo many)"
-expect_folder build lock log
+built_files lock log
 [ ! -e .git/checked-beside ] || fail 'copy, which is left' /dev/null /dev/null
 [ ! -d "/proc/$(head -n 1 "$state/begun")" ] || fail 'rt, which goes on' /dev/null /dev/null
 
@@ -426,6 +546,23 @@ compared 0 'of other sources, so not compared'
 title='there is no program in dist/'
 rm "dist/$name"
 compared 0 'no program to compare'
+title='which glibc the program needs is not known without objdump'
+compared 0 "glibc: objdump isn't installed, so what the program needs isn't checked"
+title='it needs no newer one than ./ix_export names'
+# needs VERSION..: an objdump by which the program needs these.
+needs() {
+  { echo '#!/bin/sh' && printf 'echo "00000000      DF *UND*  00000000 (%s) it"\n' "$@"; } >"$scratch/kit/bin/objdump"
+  chmod +x "$scratch/kit/bin/objdump"
+}
+needs GLIBC_2.9 GLIBC_2.34 GCC_3.0
+compared 0 'glibc: the program needs GLIBC_2.34, and 2.34 is what ./ix_export and the package name'
+title='it needs a newer one'
+needs GLIBC_2.34 GLIBC_2.38 GLIBC_2.9
+compared 1 'glibc: FAILED: the program needs GLIBC_2.38, and ./ix_export and the package name 2.34'
+title='objdump shows none'
+needs GCC_3.0
+compared 1 'glibc: FAILED: objdump shows no version'
+rm "$scratch/kit/bin/objdump"
 
 # dist_refused: the gate hasn't built what is to go into dist/, and one line says what to do.
 dist_refused() {

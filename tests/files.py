@@ -204,7 +204,7 @@ def syncs(runner):
     status, _, errors = runner.run("get", FAIL=f"fsync:1:{NO_SPACE}")
     lines = errors.splitlines()
     path = runner.out / "whole.car"
-    if status != 4 or lines[0] != f"left {path}.part: its job ended with write":
+    if status != 4 or lines[0] != f"left {path}.part: its job ended with write; 2 links were skipped":
         raise Wrong(f"get, fsync fails: status {status}: {errors}")
     if lines[1] != f"cannot write {path}: No space left on device (os error 28)" or path.read_bytes() != OLD:
         raise Wrong(f"get, fsync fails: {errors}")
@@ -227,18 +227,33 @@ def syncs(runner):
 
 
 def failed_names(runner):
-    """Where an archive can't get its name, JSON objects of `jobs` say no place of those that should have theirs, and that of
-    `get` names the part, which is left and whole."""
-    part = str(runner.out / "whole.car.part")
-    for command, stream, wanted_places in (("jobs --json", 1, [None] * len(NAMES)), ("get --json", 2, [part])):
+    """Where an archive can't get its name, the JSON of `jobs` and of `get` names the part, which is left and whole. The job of
+    `jobs` ends with write, and the others have their names."""
+    ends = {"jobs --json": ("write", 4), "jobs --sync --json": ("write", 4), "get --json": ("done", 2)}
+    for command, wanted_end in ends.items():
         runner.clear(command, False)
         answers = runner.run(command, FAIL=f"rename:1:{IO}")
-        objects = [json.loads(line) for line in answers[stream].splitlines() if line.startswith("{")]
-        places = [found.get("file", found.get("part")) for found in objects if "job" in found]
-        if answers[0] != 2 or places != wanted_places or "total" not in objects[-1]:
-            raise Wrong(f"{command}, a rename fails: status {answers[0]}, places {places}: {answers[2]}")
-    if pathlib.Path(part).read_bytes() != wanted("whole"):
-        raise Wrong("get --json, a rename fails: its part is not whole")
+        objects = [json.loads(line) for line in (answers[1] + answers[2]).splitlines() if line.startswith("{")]
+        errors = [found["error"] for found in objects if "error" in found]
+        objects = [found for found in objects if "error" not in found]
+        left = [found for found in objects if "part" in found]
+        named = [found["file"] for found in objects if "file" in found]
+        what = f"{command}, a rename fails: status {answers[0]}: {answers[1]}{answers[2]}"
+        if len(left) != 1 or len(named) != len(runner.names(command)) - 1 or "total" not in objects[-1]:
+            raise Wrong(what)
+        if errors != (["write"] if command == "get --json" else []):
+            raise Wrong(what)
+        part = pathlib.Path(left[0]["part"])
+        if left[0]["part_bytes"] != part.stat().st_size:
+            raise Wrong(what)
+        path = part.with_suffix("")
+        if (left[0]["end"], answers[0]) != wanted_end or part.read_bytes() != wanted(path.stem) or path.read_bytes() != OLD:
+            raise Wrong(what)
+        if command != "get --json" and answers[2].splitlines()[-1] != f"cannot write {path}: Input/output error (os error {IO})":
+            raise Wrong(what)
+        for name in named:
+            if pathlib.Path(name).read_bytes() != wanted(pathlib.Path(name).stem):
+                raise Wrong(f"{what}: {name} is not whole")
 
 
 def locks(runner):
@@ -261,7 +276,8 @@ def locks(runner):
             raise Wrong(f"{command}, over NFS, stale: status {status}: {errors}")
     path = runner.out / "whole.car"
     runner.clear("get", False)
-    path.chmod(0o600)
+    # More bits than the mask leaves a new file.
+    path.chmod(0o777)
     status, _, errors = runner.run("get", FAIL=f"fchmod:1:{NOT_PERMITTED}")
     if status != 2 or "(os error 1)" not in errors or path.read_bytes() != OLD:
         raise Wrong(f"get, permission bits can't be kept: status {status}: {errors}")

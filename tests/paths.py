@@ -153,12 +153,11 @@ def judge(graph, file, segments, way, why):
     path = "/".join([text(graph.root), *map(escaped, segments)]) + "/" * (segments[-1:] == [b""])
     of_get = ["get", "--blocks", file, "--root", path, "--quiet"]
     if why:
-        is_block = why.startswith(("damaged", "missing"))
         if segments:
-            told = run(["block", "--blocks", file, path], 3 if is_block else 2)
+            told = run(["block", "--blocks", file, path], 3)
             if told.stdout or not told.stderr.decode().startswith(why):
                 raise Wrong(f"block {path}: {told.stderr!r}, and not {why}")
-            told = run(of_get, 2)
+            told = run(of_get, 4)
             if told.stdout or not told.stderr.decode().startswith("--root: " + why):
                 raise Wrong(f"get {path}: {told.stderr!r}, and not {why}")
         return

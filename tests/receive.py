@@ -27,6 +27,11 @@ from differences import sections_of
 from hostile import DAG_CBOR, DIGESTS, IDENTITY, PROGRAM, RAW, SECONDS_A_RUN, Wrong, cid, header, section, text
 
 PIECES = (1, 7, 4096, 65536)
+WHY_UNREAD = {
+    "codec": "its codec is neither raw nor DAG-CBOR",
+    "hash": "its hash is neither SHA-256, SHA-512 nor identity",
+    "malformed": "its inline bytes aren't DAG-CBOR",
+}
 ALLOWED = {"": (), "raw": (RAW,), "dag-cbor": (DAG_CBOR,), "all": (RAW, DAG_CBOR)}
 
 
@@ -75,16 +80,23 @@ class Reception:
             self.absent += 1
         self.expand(key, rest)
 
+    def unread(self, key):
+        """The word for why nothing can come for a CID, or None."""
+        codec, hash_code, digest = once.parts(key)
+        if codec not in (RAW, DAG_CBOR):
+            return "codec"
+        if hash_code != IDENTITY and hash_code not in DIGESTS:
+            return "hash"
+        return "malformed" if hash_code == IDENTITY and codec == DAG_CBOR and digest not in self.nodes else None
+
     def take(self, place, key, block):
         codec, hash_code, digest = once.parts(key)
         at = f"at {place}: {text(key)}"
-        word = None
-        if codec not in (RAW, DAG_CBOR):
-            word = "codec"
-        elif hash_code != IDENTITY and hash_code not in DIGESTS:
-            word = "hash"
+        word = self.unread(key)
+        if word:
+            pass
         elif hash_code == IDENTITY:
-            word = "malformed" if codec == DAG_CBOR and digest not in self.nodes else "inline"
+            word = "inline"
         elif DIGESTS[hash_code](block) != digest:
             word = "damaged"
         elif codec == DAG_CBOR and block not in self.nodes:
@@ -107,6 +119,9 @@ class Reception:
     def finish(self, place):
         while found := self.next(place, "the end"):
             self.pass_by(*found, place, "the stream ends")
+        for root in self.roots:
+            if word := self.unread(root):
+                raise Rejected(place, f"{word} at {place}: the root {text(root)}: {WHY_UNREAD[word]}", root)
 
 
 class Kept:
@@ -132,8 +147,8 @@ def visits_of(reception):
 
 
 def told(nodes, job, allowed, sections, tail=b"", base=None, with_paths=False):
-    """How many bytes of a stream are written, and its report or line: of a header for the job's roots, sections, and the
-    beginning of another one."""
+    """How many bytes of a stream are written, its report or line, and its status: of a header for the job's roots, sections,
+    and the beginning of another one."""
     _, selector, roots, limit, _ = job
     reception = Reception(nodes, selector, roots, limit, ALLOWED[allowed], base or {})
     place = len(header(roots))
@@ -148,15 +163,17 @@ def told(nodes, job, allowed, sections, tail=b"", base=None, with_paths=False):
         size, line, stop = rejected.args
         found = [visit for visit in visits_of(reception) if visit[1] == stop][:1] if with_paths else []
         word = line.split(" ")[0]
-        return size, "\n".join(["-: " + line, *(f"  {number} {word} {text(key)} {path}" for number, key, path in found)])
-    lines = []
-    for number, key, path in visits_of(reception) if with_paths else []:
-        if key in reception.missing:
-            lines.append(f"  {number} missing {text(key)} {path}\n")
+        return size, "\n".join(["-: " + line, *(f"  {number} {word} {text(key)} {path}" for number, key, path in found)]), 4
+    lines, skipped = [], 0
+    for number, key, path in visits_of(reception):
+        word = reception.unread(key)
+        skipped += word is not None
+        if word or with_paths and key in reception.missing:
+            lines.append(f"  {number} {word or 'missing'} {text(key)}" + f" {path}" * with_paths + "\n")
     absent = f" absent={reception.absent}" if allowed else ""
     visits = reception.visits
     counts = f"visits={visits} kept={visits} sections={len(sections)} bytes={place}"
-    return None, f"receive done {counts}{absent}\n{''.join(lines)}total jobs=1 done=1 skips=0"
+    return None, f"receive done {counts}{absent}\n{''.join(lines)}total jobs=1 done=1 skips={skipped}", 3 if skipped else 0
 
 
 # Runs.
@@ -193,8 +210,8 @@ def words_of(job, allowed):
 def judge(room, nodes, job, allowed, sections, piece, tail=b"", base=None, files=(), with_paths=False):
     """Receives a stream, and compares all of it with the model. Returns whether it was accepted."""
     stream = header(job[2]) + b"".join(section(*pair) for pair in sections) + tail
-    size, line = told(nodes, job, allowed, sections, tail, base, with_paths)
-    wanted = (0, line + "\n", stream, None) if size is None else (4, line + "\n", None, stream[:size])
+    size, line, status = told(nodes, job, allowed, sections, tail, base, with_paths)
+    wanted = (status, line + "\n", *((stream, None) if size is None else (None, stream[:size])))
     came = received(room, stream, words_of(job, allowed) + [word for file in files for word in ("--with", file)] + ["--paths"] * with_paths, piece)
     if came != wanted:
         raise Wrong(f"{came} came and {wanted} was wanted of {job[-1]} --allow-missing {allowed}, of {stream.hex()}")
@@ -379,10 +396,8 @@ def random_paths(room, seed, graphs):
                 whole = [key for key in way if key not in graph.damaged]
                 stream = paths.archive_of(graph, whole)
                 line = why.replace("damaged", "missing")
-                is_early = once.parts(graph.root)[1] == IDENTITY and len(stream) == len(header([graph.root]))
                 came = received(room, stream, [*words, *scope], graph.chance.choice(PIECES))
-                status = 2 if is_early and not line.startswith("missing") else 4
-                if came[0] != status or came[2] is not None or not came[1].startswith(("--root: " + line, "-: missing at ")):
+                if came[0] != 4 or came[2] is not None or not came[1].startswith(("--root: " + line, "-: missing at ")):
                     raise Wrong(f"{came} of {path}, which has {why}, of {stream.hex()}, graph {number}")
             else:
                 get = [PROGRAM, "get", "--blocks", file, "--root", path, *scope]

@@ -127,7 +127,7 @@ for path in a a/0; do
 done
 run verify map.car --path a --scope block
 expect 0 "map.car sound sections=3 bytes=$length" ''
-for words in --scope=block "--selector=$just_root"; do
+for words in --scope=block "--selector=$just_root" '--selector={"|":[]}'; do
   run verify map.car --path a "$words" --exact
   expect 3 "map.car inexact sections=3 bytes=$length unsound=0 skips=0
   exact $((length - 40)) surplus $abc_text" ''
@@ -182,4 +182,4 @@ wrong_words 'the roots in the header of none.car: --path leads on from one root,
 roots=()
 for number in $(seq 10 79); do roots+=("$(raw "$number")"); done
 bytes "$(header "${roots[@]}")" >many.car
-wrong_words 'the roots in the header of many.car: --root: 70 texts, expected 1 to 64' many.car --exact
+wrong_words 'the roots in the header of many.car: --root: 70 CIDs, expected 1 to 64' many.car --exact

@@ -12,6 +12,11 @@ printed() {
   expect_same 'standard output' "$scratch/wanted" "$scratch/stdout"
 }
 
+# key_link HEX CID: a key of one byte, and a link, in hex.
+key_link() {
+  echo "$1d82a58$(printf '%02x' $((${#2} / 2 + 1)))00$2"
+}
+
 # shows HEX TEXT: the DAG-JSON of a block of DAG-CBOR, compact.
 shows() {
   write_blocks "$(section "$(cbor "$1")" "$1")"
@@ -57,22 +62,73 @@ expect_bytes out/list 8101
 
 begin 'block and show: what is not sound is named, and nothing is written'
 bytes ff >out/a
-write_blocks "$(section "$abc_cid" 616264)" "$(section "$(cbor 8102ff)" 8102ff)" "$(section "01701220$(digest 0a)" 0a)" "$(section "01711e20$(digest 01)" 01)"
+write_blocks "$(section "$abc_cid" 616264)" "$(section "$(cbor 8102ff)" 8102ff)" "$(section "01701220$(digest 0a)" 0a)" "$(section "01711e20$(digest 01)" 01)" "$(section "01701220$(digest 0b)" 0a)"
+while read -r line; do
+  cid=$(sed -E 's/^[a-z]+ ([a-z0-9]+).*/\1/' <<<"$line")
+  run "${show_of[@]}" "$cid"
+  expect 3 '' "$line"
+done <<<"damaged $abc_text
+malformed $(text "$(cbor 8102ff)"): bytes after the item at 2
+malformed $(text "$(cbor_inline 8102ff)"): bytes after the item at 2
+codec $(text "01701220$(digest 0a)")
+hash $(text "01711e20$(digest 01)")
+missing $(text "$(raw 00)")"
 while read -r word cid; do
   run "${block_of[@]}" "$cid"
   expect 3 '' "$word $cid"
   run "${block_of[@]}" "$cid" --out out/a
   expect 3 '' "$word $cid"
-  run "${show_of[@]}" "$cid"
-  expect 3 '' "$word $cid"
 done <<<"damaged $abc_text
-malformed $(text "$(cbor 8102ff)")
-malformed $(text "$(cbor_inline 8102ff)")
-codec $(text "01701220$(digest 0a)")
+damaged $(text "01701220$(digest 0b)")
 hash $(text "01711e20$(digest 01)")
-missing $(text "$(raw 00)")"
+missing $(text "$(raw 00)")
+missing $(text "01701220$(digest 0c)")"
 expect_folder out a
 expect_bytes out/a ff
+
+begin 'block: one of any codec, also where a path ends with a link to it'
+pb=01701220$(digest 0a)
+other=0181021340$(digest_512 0a)
+linked=a161$(key_link 70 "$pb")
+write_blocks "$(section "$pb" 0a)" "$(section "$other" 0a)" "$(section "$(cbor "$linked")" "$linked")"
+for cid in "$(text "$pb")" "$(text "$other")" "$(text "$(cbor "$linked")")/p"; do
+  run "${block_of[@]}" "$cid"
+  printed 0a
+done
+run "${show_of[@]}" "$(text "$(cbor "$linked")")/p"
+expect 3 '' "codec $(text "$pb")"
+run "${block_of[@]}" "$(text "$(cbor "$linked")")/p/x"
+expect 3 '' "codec $(text "$pb")"
+
+begin 'block: one that does not decode is written, with a note of its first error'
+while read -r block cause; do
+  linked=a161$(key_link 62 "$(cbor "$block")")
+  write_blocks "$(section "$(cbor "$block")" "$block")" "$(section "$(cbor "$linked")" "$linked")"
+  for cid in "$(text "$(cbor "$block")")" "$(text "$(cbor "$linked")")/b"; do
+    run "${block_of[@]}" "$cid"
+    expect_text 'exit status' 0 "$status"
+    expect_lines 'standard error' "note: malformed $(text "$(cbor "$block")"): $cause" "$scratch/stderr"
+    bytes "$block" >"$scratch/wanted"
+    expect_same 'standard output' "$scratch/wanted" "$scratch/stdout"
+    run "${show_of[@]}" "$cid"
+    expect 3 '' "malformed $(text "$(cbor "$block")"): $cause"
+  done
+  run "${block_of[@]}" "$(text "$(cbor "$linked")")/b/0"
+  expect 3 '' "malformed $(text "$(cbor "$block")"): $cause"
+done <<<"a2626161016161 key order at 5
+8201 truncated at 2
+811805 not shortest at 1
+9f00ff indefinite length at 0
+81c100 tag at 1
+d82a4101 link at 0
+81f7 simple value at 1
+fa3fc00000 float at 0
+a10100 key kind at 1
+0000 bytes after the item at 1
+$(repeated 513 81)00 nesting at 512"
+run "${block_of[@]}" "$(text "$(cbor_inline 8102ff)")" --out out/inline
+expect 0 '' "note: malformed $(text "$(cbor_inline 8102ff)"): bytes after the item at 2"
+expect_bytes out/inline 8102ff
 
 begin 'block and show: of several copies the first counts, in one file or in several, or the first that is sound'
 bytes "$no_roots" "$(section "$abc_cid" 616264)" >a.car
@@ -118,7 +174,7 @@ refused 'cannot write out/large: File too large (os error 27)'
 expect_folder out
 if [ -w /dev/full ]; then
   status=0
-  "$top/ix_export" "${block_of[@]}" "$(text "$(raw "$large")")" >/dev/full 2>"$scratch/stderr" || status=$?
+  "$program" "${block_of[@]}" "$(text "$(raw "$large")")" >/dev/full 2>"$scratch/stderr" || status=$?
   : >"$scratch/stdout"
   refused 'cannot write -: No space left on device (os error 28)'
 fi
@@ -205,7 +261,7 @@ if command -v script >/dev/null; then
   # at_terminal WORD..: the program with a terminal as its outputs, its lines in $scratch/terminal.
   at_terminal() {
     status=0
-    script -qec "$(printf '%q ' "$top/ix_export" "$@")" /dev/null </dev/null | tr -d '\r' >"$scratch/terminal" || status=$?
+    script -qec "$(printf '%q ' "$program" "$@")" /dev/null </dev/null | tr -d '\r' >"$scratch/terminal" || status=$?
   }
 
   begin 'block: a terminal is refused'

@@ -40,7 +40,7 @@ run jobs --blocks v2.car --jobs jobs.txt --out out
 refused 'blocks: version 2 at 0'
 run jobs --blocks v2.car --jobs jobs.txt --out out --verbose
 refused 'blocks: version 2 at 0
-a CARv2 file; --carv2 reads the CARv1 in it'
+v2.car: a CARv2 file; --carv2 reads the CARv1 in it'
 
 begin 'CARv2: inspect describes it, with places from its beginning'
 write_carv2
@@ -89,7 +89,7 @@ wrong() {
   expect_text 'the beginning' "v2.car: $line:" "$(cut -c "1-$((${#line} + 9))" "$scratch/stderr")"
   run "${get_of[@]}" --blocks v2.car
   expect_text 'exit status' 2 "$status"
-  expect_text 'the beginning' "blocks: $line:" "$(cut -c "1-$((${#line} + 9))" "$scratch/stderr")"
+  expect_text 'the beginning' "v2.car: $line:" "$(cut -c "1-$((${#line} + 9))" "$scratch/stderr")"
   run inspect v2.car
   expect_text 'exit status' 2 "$status"
   expect_text 'the beginning' "v2.car: $line:" "$(cut -c "1-$((${#line} + 9))" "$scratch/stderr")"

@@ -29,17 +29,16 @@ verify_archives() {
   done <"$scratch/stdout"
   if [ ${#archives[@]} -gt 0 ]; then
     verified=$((verified + ${#archives[@]}))
-    "$top/ix_export" verify --blocks-only "${archives[@]}" >"$scratch/verified" 2>&1 || fail archives /dev/null "$scratch/verified"
+    "$program" verify --blocks-only "${archives[@]}" >"$scratch/verified" 2>&1 || fail archives /dev/null "$scratch/verified"
   fi
 }
 
 # The same with standard output and standard error as the caller has them.
 run_bare() {
   status=0
-  local program=$top/ix_export words=("$@")
-  if [ -n "${prefetch-}" ] && [[ ${1-} == @(get|jobs) ]]; then
-    program=$taken
-    [[ " $* " == *' --prefetch '* ]] || words=("$1" --prefetch "$prefetch" "${@:2}")
+  local words=("$@")
+  if [ -n "${prefetch-}" ] && [[ ${1-} == @(get|jobs) && " $* " != *' --prefetch '* ]]; then
+    words=("$1" --prefetch "$prefetch" "${@:2}")
   fi
   "$program" "${words[@]}" || status=$?
 }

@@ -11,7 +11,7 @@ expect_text 'exit status' 4 "$status"
 expect_lines 'standard error' "left out/short.car.part: its job ended with limit
 left out/gone.car.part: its root $(text "$(raw 6d)") is missing
 left out/bad.car.part: its root $(text "$with_zero_cid") is damaged
-left out/other.car.part: its root $(text "$pb_cid") is codec" "$scratch/stderr"
+left out/other.car.part: its root $(text "$pb_cid") has a codec that isn't exported" "$scratch/stderr"
 expect_folder out bad.car.part gone.car gone.car.part inline.car other.car.part short.car.part whole.car
 expect_bytes out/whole.car "$one_archive"
 expect_bytes out/gone.car ff

@@ -217,7 +217,7 @@ $2"
 verbose 'cannot read blocks.car' 'Is a directory (os error 21)' 'rm blocks.car; mkdir blocks.car'
 verbose 'cannot read jobs.txt' 'No such file or directory (os error 2)' 'rm jobs.txt'
 verbose 'too large blocks.car' 'an input has at most 1073741824 bytes: --max-input allows more' "truncate -s $((greatest + 1)) blocks.car"
-verbose 'blocks: truncated at 0' 'compressed by gzip' 'bytes 1f8b0800 >blocks.car'
+verbose 'blocks: truncated at 0' 'blocks.car: compressed by gzip' 'bytes 1f8b0800 >blocks.car'
 verbose 'jobs: fields at line 1' 'ix_export check-jobs reports what is wrong with each line' 'echo b >jobs.txt'
 verbose 'cannot write out/a.car' 'No such file or directory (os error 2); its directory must exist' 'rmdir out'
 verbose 'cannot write out/a.car' 'it is an input: give another output' 'ln blocks.car out/a.car'

@@ -54,6 +54,7 @@ for ((at = 0; at < ${#recipes[@]}; at += 3)); do
   run jobs --blocks "$top/examples/library.car" --jobs jobs.txt --out out
   mv "$scratch/stdout" report
   words=(get --blocks "$top/examples/library.car" --root $library_root --every-arrival --limit 1000)
+  rm -f json.car
   run "${words[@]}" --selector "${recipes[at]}" --out json.car
   grep -v '^note: ' "$scratch/stderr" >came
   expect_same "report of ${recipes[at]}" report came
@@ -108,8 +109,20 @@ expect_text 'the first line' "left out/a.car.part: its root $(text "$with_zero_c
 expect_text 'exit status' 4 "$status"
 pb_text=$(text "01701220$(digest "$abc")")
 run get --blocks blocks.car --root "$pb_text" --out out/a.car
-expect_text 'the first line' "left out/a.car.part: its root $pb_text is codec" "$(head -n 1 "$scratch/stderr")"
+expect_text 'the first line' "left out/a.car.part: its root $pb_text has a codec that isn't exported" "$(head -n 1 "$scratch/stderr")"
 expect_text 'exit status' 4 "$status"
+expect_folder out a.car.part
+title='get: and so is a CIDv0, among the arguments and in a header'
+v0_text=v0-1220$(digest "$abc")
+bytes "$(header "1220$(digest "$abc")")" "$(section "$abc_cid" "$abc")" >v0.car
+for v0 in "--blocks blocks.car --root QmatYkNGZnELf8cAGdyJpUca2PyY4szai3RHyyWofNY1pY" \
+  "--blocks blocks.car --root $v0_text/" '--blocks v0.car --quiet'; do
+  run get $v0 --out out/a.car
+  expect 4 '' "left out/a.car.part: its root $v0_text has a codec that isn't exported
+get done visits=1 kept=1 sections=0 bytes=$(bytes "$(header "1220$(digest "$abc")")" | wc -c)
+  0 codec $v0_text
+total jobs=1 done=1 skips=1"
+done
 expect_folder out a.car.part
 title='get: and so where it goes to standard output'
 run get --blocks blocks.car --root "$abc_text,$missing"
@@ -164,19 +177,23 @@ get_refused() {
 
 begin 'get: words that are those of no job'
 write_blocks "$one_blocks"
-base58='base58 of a CIDv0, which names UnixFS, expected a CIDv1 in base32 beginning with b'
-other=', expected base32 beginning with b: ipfs cid base32 converts it'
-upper='base32 in upper case, expected lower case, beginning with b'
 while read -r root line; do
-  get_refused "--root: $line" get --blocks none --root "$root" --out out/a.car
+  title="get: $root"
+  run get --blocks none --root "$root" --out out/a.car
+  expect_text 'exit status' 2 "$status"
+  expect_text 'the first line' "error: invalid value for '--root <ROOT>': $line" "$(head -n 1 "$scratch/stderr")"
+  expect_folder out
 done <<END
-QmdfTbBqBPQ7VNxZEYEj14VmRuZBkqFbiwReogJgS1zR1n $base58
-zb2rhe5P4gXftAwvA4eXQ5HJwsER2owDyS9sKaQRRVQPn93bA base58$other
-f01551220ba7816bf hex$other
-F01551220BA7816BF hex$other
-${abc_text^^} $upper
-$abc_text,f01 f01 is hex$other
+f01551220ba7816bf 'f01551220ba7816bf': not a CID: a CID that ends early
+f0155000 'f0155000': not a CID: a digit of base16 too many, or another one at its end
+ipfs://z0/a 'ipfs://z0/a': not a CID: no digit of base58btc at byte 1
+Qm1 'Qm1': not a CID: neither a multibase prefix nor the 46 characters of a CIDv0
+zQmatYkNGZnELf8cAGdyJpUca2PyY4szai3RHyyWofNY1pY 'zQmatYkNGZnELf8cAGdyJpUca2PyY4szai3RHyyWofNY1pY': not a CID: a CIDv0 after a multibase prefix, of which it has none
+z$(repeated 1025 2) 'z$(repeated 1025 2)': not a CID: more than 1024 digits of base58btc: give it in base32
+$abc_text/a,b 'b' after a comma: not a CID: a CID that ends early; a comma in a path is %2C
 END
+roots=$abc_text$(printf ",$abc_text%.0s" $(seq 64))
+get_refused '--root: 65 CIDs, expected 1 to 64' get --blocks none --root "$roots" --out out/a.car
 get_refused '--limit: 0, expected 1 to 4294967295' "${get_one[@]}" --limit 0
 get_refused '--limit: greater than 4294967295, expected 1 to 4294967295' "${get_one[@]}" --limit 4294967296
 get_refused '--limit: not a number in decimal digits, expected 1 to 4294967295' "${get_one[@]}" --limit x
@@ -220,10 +237,10 @@ run get --blocks none --root "$one_text" --out out/a.car
 refused 'cannot read none: No such file or directory (os error 2)'
 bytes "$no_roots" 05 >blocks.car
 run "${get_one[@]}" --out out/a.car
-refused 'blocks: truncated at 18: ix_export inspect says how to keep the sections before it'
+refused 'blocks.car: truncated at 18: ix_export inspect says how to keep the sections before it'
 printf 'some text' >blocks.car
 run "${get_one[@]}" --out out/a.car
-refused 'blocks: truncated at 0: plain text'
+refused 'blocks.car: truncated at 0: plain text'
 expect_folder out
 
 begin 'get: an output that can not be made'
@@ -293,12 +310,12 @@ if command -v script >/dev/null; then
   begin 'get: an archive for a terminal is refused, and a file is not'
   write_blocks "$one_blocks"
   status=0
-  script -qec "$(printf '%q ' "$top/ix_export" "${get_one[@]}")" /dev/null </dev/null >"$scratch/terminal" || status=$?
+  script -qec "$(printf '%q ' "$program" "${get_one[@]}")" /dev/null </dev/null >"$scratch/terminal" || status=$?
   expect_text 'exit status' 2 "$status"
   expect_text 'the terminal' "error: the archive would go to a terminal: give '--out <FILE>', or redirect standard output" \
     "$(head -n 1 "$scratch/terminal" | tr -d '\r')"
   status=0
-  script -qec "$(printf '%q ' "$top/ix_export" "${get_one[@]}" --out out/a.car)" /dev/null </dev/null >"$scratch/terminal" || status=$?
+  script -qec "$(printf '%q ' "$program" "${get_one[@]}" --out out/a.car)" /dev/null </dev/null >"$scratch/terminal" || status=$?
   expect_text 'exit status' 0 "$status"
   expect_text 'the terminal' "$get_report" "$(tr -d '\r' <"$scratch/terminal")"
   expect_bytes out/a.car "$one_archive"

@@ -23,7 +23,7 @@ expect 0 "$(printf '%s\n' "59 3 $abc_text" "99 $((${#one} / 2)) $(text "$one_cid
 
 begin 'inspect: each place that is told is that of a section whose whole sections are kept so'
 bytes "$listed" >blocks.car
-"$top/ix_export" inspect --list blocks.car | while read -r place _ _; do
+"$program" inspect --list blocks.car | while read -r place _ _; do
   head -c "$place" blocks.car >front.car
   run inspect --list front.car
   expect_text 'exit status' 0 "$status"

@@ -93,7 +93,7 @@ begin 'an empty job file'
 write_blocks "$one_blocks"
 : >jobs.txt
 run_jobs
-expect 0 'total jobs=0 done=0 skips=0' ''
+expect 0 'total jobs=0 done=0 skips=0' 'note: jobs.txt has no job'
 expect_folder . blocks.car jobs.txt out
 expect_folder out
 
@@ -101,7 +101,7 @@ begin 'an empty job file, and an output folder that is not there'
 write_blocks
 : >jobs.txt
 run jobs --blocks blocks.car --jobs jobs.txt --out none
-expect 0 'total jobs=0 done=0 skips=0' ''
+expect 0 'total jobs=0 done=0 skips=0' 'note: jobs.txt has no job'
 expect_folder . blocks.car jobs.txt out
 
 begin 'comments, empty lines, line ends of two bytes, and none on the last line'

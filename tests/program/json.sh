@@ -14,10 +14,12 @@ said() {
   expect_lines 'standard error' "$3" "$scratch/stderr"
 }
 
-# same_without WORD..: with --json the program says and ends as without it, and its messages are the same.
+# same_without WORD..: with --json the program says and ends as without it, and its messages are the same. Neither run replaces a file.
 same_without() {
+  rm -f out/*
   run_bare "$@" >"$scratch/text" 2>"$scratch/messages"
   local wanted=$status
+  rm -f out/*
   run "$@" --json
   as_text "$scratch/stdout" >"$scratch/said"
   expect_text "exit status of $*" "$wanted" "$status"
@@ -69,7 +71,7 @@ begin 'JSON: no jobs'
 write_blocks
 : >jobs.txt
 run jobs --blocks blocks.car --jobs jobs.txt --out out --json
-expect 0 '{"total":{"jobs":0,"done":0,"skips":0}}' ''
+expect 0 '{"total":{"jobs":0,"done":0,"skips":0}}' 'note: jobs.txt has no job'
 
 begin 'JSON: get to a file, to standard output, and at its limit, on standard error'
 write_blocks "$one_blocks"
@@ -133,6 +135,8 @@ same_without verify lacks.car a.car b.car --allow-missing raw
 expect_text 'absent' '"absent":1 "absent":0 "absent":0' "$(grep -o '"absent":[0-9]*' "$scratch/stdout" | tr '\n' ' ' | sed 's/ $//')"
 same_without verify lacks.car a.car hash.car --quiet
 same_without verify c.car none a.car b.car --blocks-only
+expect_text 'errors of two' '{"error":"car","message":"c.car: header at 0: not a CARv1 file"}
+{"error":"read","message":"cannot read none: No such file or directory (os error 2)"}' "$(grep '^{"error"' "$scratch/stdout")"
 same_without verify a.car b.car hash.car --exact --scope block
 sections=
 for number in $(seq 10 40); do sections+=$(section "$abc_cid" "$number"); done
@@ -166,13 +170,15 @@ done
 begin 'JSON: inspect of what is no CARv1 file, and of one that ends early'
 printf '{"a":1}' >a.json
 run inspect a.json --json
-expect 2 '{"file":"a.json","fault":"truncated","place":0,"is":"JSON"}' 'a.json: truncated at 0: JSON'
+expect 2 '{"file":"a.json","fault":"truncated","place":0,"is":"JSON"}
+{"error":"car","message":"a.json: truncated at 0: JSON"}' 'a.json: truncated at 0: JSON'
 bytes "${one_archive%??}" >cut.car
 run inspect --list cut.car --json
-expect 2 '{"file":"cut.car","fault":"truncated","place":138,"is":"a CARv1 file","start":0}' \
+expect 2 '{"file":"cut.car","fault":"truncated","place":138,"is":"a CARv1 file","start":0}
+{"error":"car","message":"cut.car: truncated at 138: its whole sections are its first 138 bytes (head -c 138)"}' \
   'cut.car: truncated at 138: its whole sections are its first 138 bytes (head -c 138)'
 run inspect none --json
-expect 2 '' 'cannot read none: No such file or directory (os error 2)'
+expect 2 '{"error":"read","message":"cannot read none: No such file or directory (os error 2)"}' 'cannot read none: No such file or directory (os error 2)'
 run inspect a.json --cids --json
 expect_text 'exit status' 2 "$status"
 expect_lines 'standard output' '' "$scratch/stdout"
@@ -183,6 +189,7 @@ write_jobs "a $one_job" "b zQ3sh 1 $matcher" "a $one_job" "g  $abc_text 1 $match
 run_bare check-jobs jobs.txt | sed 1d >"$scratch/text"
 run check-jobs jobs.txt --json
 said 2 "$(cat "$scratch/text")" ''
+expect_text 'the error' '{"error":"jobs","message":"jobs: root at line 2"}' "$(tail -n 1 "$scratch/stdout")"
 write_jobs "a $one_job"
 run check-jobs jobs.txt --json
 expect 0 '' ''

@@ -35,6 +35,10 @@ def of_rejected(it):
         yield "  fault {place} {reason}".format(**it["fault"]) + "".join(cids)
 
 
+def cause_of(finding):
+    return ": {cause} at {offset}".format(**finding) if "cause" in finding else ""
+
+
 def of_file(it):
     assert it["outcome"] in ("sound", "incomplete", "inexact", "unsupported", "broken"), it["outcome"]
     line = "{file} {outcome} sections={sections} bytes={bytes}".format(**it)
@@ -42,9 +46,9 @@ def of_file(it):
     yield line + (f" absent={it['absent']}" if "absent" in it else "")
     for finding in it["findings"]:
         if "section" in finding:
-            yield "  section {section} {verdict} {cid}".format(**finding)
+            yield "  section {section} {verdict} {cid}".format(**finding) + cause_of(finding)
         else:
-            yield "  link {link} {cid}".format(**finding)
+            yield "  link {link} {cid}".format(**finding) + cause_of(finding)
     if it["more"]:
         yield f"  and {it['more']} more (--all prints each)"
     if "limit" in it:
@@ -88,6 +92,9 @@ def lines(it):
             return ["{place} {size} {cid}".format(**it)]
         case {"is": _}:
             return ["{file}: {fault} at {place}: {is}".format(**it)]
+        # Its line is on standard error.
+        case {"error": _, "message": _}:
+            return []
     raise ValueError(f"an object of no report: {it}")
 
 
@@ -97,7 +104,8 @@ def main():
     for line in text.splitlines():
         it = json.loads(line, object_pairs_hook=unique, parse_float=no_float, parse_constant=no_float)
         assert json.dumps(it, separators=(",", ":"), ensure_ascii=False) == line, f"not as it is documented: {line}"
-        print(*lines(it), sep="\n")
+        for line in lines(it):
+            print(line)
 
 
 sys.stdout.reconfigure(encoding="utf-8")

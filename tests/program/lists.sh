@@ -120,7 +120,7 @@ $(text "$abc_512_cid")
 $abc_text
 $(text 0181029a0101ff)" ''
 write_blocks "$one_blocks"
-run get --root "$one_text" --blocks blocks.car --without-list - < <("$top/ix_export" inspect --cids base.car)
+run get --root "$one_text" --blocks blocks.car --without-list - < <("$program" inspect --cids base.car)
 differs 1 "$sound_one"
 write_blocks
 run inspect --cids blocks.car

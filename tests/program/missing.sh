@@ -15,6 +15,7 @@ third_skip="  3 missing $abc_text"
 
 # trio_gives WHICH STATUS ABSENT SKIPS LINE..: what is reported of the list with this option.
 trio_gives() {
+  rm -f out/a.car
   run "${get_trio[@]}" --allow-missing "$1"
   expect "$2" '' "$(printf '%s\n' "get $trio_line absent=$3" "${@:5}" "total jobs=1 done=1 skips=$4")"
   expect_bytes out/a.car "$(header "$trio_cid")$trio_block"
@@ -27,6 +28,7 @@ trio_gives dag-cbor 3 1 2 "$first_skip" "$third_skip"
 trio_gives raw,dag-cbor 0 3 0
 trio_gives all,raw 0 3 0
 trio_gives all 0 3 0
+rm out/a.car
 run "${get_trio[@]}"
 expect 3 '' "get $trio_line
 $first_skip

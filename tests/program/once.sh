@@ -71,7 +71,7 @@ total jobs=1 done=1 skips=1" "$both_cid" 4 "$all" "$both_sections$(section "$dam
 # Two ways to one block: nothing below it is entered by the first, everything by the second.
 ways=a26161$(link "$one_cid")6162$(link "$one_cid")
 ways_cid=$(cbor "$ways")
-by_two=$(cd "$top" && ./ix_export selector '{"f":{"f>":{"a":{".":{}},"b":{"R":{"l":{"none":{}},":>":{"a":{">":{"@":{}}}}}}}}}')
+by_two=$("$program" selector '{"f":{"f>":{"a":{".":{}},"b":{"R":{"l":{"none":{}},":>":{"a":{">":{"@":{}}}}}}}}}')
 ways_sections=$(section "$ways_cid" "$ways")$one_blocks
 once_gives 'a block is gone into with each rest of the selector' 0 "a done visits=4 kept=4 sections=3 bytes=$(size "$(header "$ways_cid")" "$ways_sections")
 total jobs=1 done=1 skips=0" "$ways_cid" 10 "$by_two" "$ways_sections" "$ways_sections"
@@ -81,7 +81,7 @@ middle=81$(link "$one_cid")
 middle_cid=$(cbor "$middle")
 deep=82$(link "$middle_cid")$(link "$one_cid")
 deep_cid=$(cbor "$deep")
-three_levels=$(cd "$top" && ./ix_export selector '{"R":{"l":{"depth":3},":>":{"a":{">":{"@":{}}}}}}')
+three_levels=$("$program" selector '{"R":{"l":{"depth":3},":>":{"a":{">":{"@":{}}}}}}')
 deep_sections=$(section "$deep_cid" "$deep")$(section "$middle_cid" "$middle")$one_blocks
 once_gives 'a block is met with no level left, and then with one' 0 "a done visits=5 kept=5 sections=4 bytes=$(size "$(header "$deep_cid")" "$deep_sections")
 total jobs=1 done=1 skips=0" "$deep_cid" 10 "$three_levels" "$deep_sections" "$deep_sections"

@@ -39,10 +39,10 @@ begin 'the one part of one, and parts without a job'
 write_blocks "$one_blocks"
 write_jobs "a $one_job"
 run_part 1/2
-expect 0 'total jobs=0 done=0 skips=0' ''
+expect 0 'total jobs=0 done=0 skips=0' 'note: part 1/2 of jobs.txt has no job'
 expect_folder out
 run_part 1/1000000
-expect 0 'total jobs=0 done=0 skips=0' ''
+expect 0 'total jobs=0 done=0 skips=0' 'note: part 1/1000000 of jobs.txt has no job'
 run_part 2/2
 expect 0 "a $one_line
 total jobs=1 done=1 skips=0" ''
@@ -84,15 +84,16 @@ run_part 2/2
 refused 'jobs: fields at line 2503'
 
 cluster=$top/examples/cluster
-export IX_EXPORT=$top/ix_export
+export IX_EXPORT=$program
 
-# run_parts N: each part of the case, by `part`.
+# run_parts N: each part of the case, by `part`. One without a job says so.
 run_parts() {
-  local part
+  local part noted
   for ((part = 1; part <= $1; part++)); do
-    status=0
+    status=0 noted=
     "$cluster/part" "$part" "$1" blocks.car jobs.txt out >"$scratch/stdout" 2>"$scratch/stderr" || status=$?
-    expect 0 '' ''
+    ! grep -Fqsx 'total jobs=0 done=0 skips=0' "out/parts/report.$part-of-$1" || noted="note: part $part/$1 of jobs.txt has no job"
+    expect 0 '' "$noted"
   done
 }
 

@@ -21,11 +21,19 @@ along() {
 total jobs=1 done=1 skips=0" "$archive"
 }
 
-# leads_nowhere LINE WORD..: a path that leads no further is status 2, and nothing is written.
+# leads_nowhere CODE CID LINE PATH: a path that leads no further from this block is status 4, of this code, and nothing is written.
 leads_nowhere() {
-  run get --blocks blocks.car --out out/a.car "${@:2}"
-  expect 2 '' "--root: $1"
+  run get --blocks blocks.car --out out/a.car --root "$4"
+  expect 4 '' "--root: $3"
+  run get --blocks blocks.car --out out/a.car --root "$4" --json
+  expect 4 '' "--root: $3
+{\"error\":\"$1\",\"message\":\"--root: $3\",\"cid\":\"$2\",\"path\":\"${4//%ff/%FF}\"}"
   expect_folder out
+  for command in show block; do
+    run $command --blocks blocks.car "$4" --json
+    expect 3 '' "$3
+{\"error\":\"$1\",\"message\":\"$3\",\"cid\":\"$2\",\"path\":\"${4//%ff/%FF}\"}"
+  done
 }
 
 # is_no_path WORDS WORD..: a root that is no path is rejected before a file is read.
@@ -48,6 +56,39 @@ along 2 2 "$tree_section$abc_section" --root "$tree_text" --segment a/b
 along 3 3 "$path_blocks" --root "$tree_text/in" --segment c
 along 3 3 "$path_blocks" --root "$tree_text/i%6E" --every-arrival
 
+begin 'paths: after roots as they are pasted'
+write_blocks "$path_blocks"
+base64=$(bytes "$tree_cid" | base64 -w 0 | tr -d =)
+for root in "f$tree_cid" "F${tree_cid^^}" "${tree_text^^}" "u$(tr +/ -_ <<<"$base64")" "https://ipfs.io/ipfs/$tree_text" \
+  "http://localhost:8080/ipld/f$tree_cid" "https://$tree_text.ipfs.dweb.link" "https://gateway.ipfs.io/ipfs/$tree_text"; do
+  along 3 3 "$path_blocks" --root "$root/in/c"
+done
+for rest in '?filename=a/b' '#%zz' '?a#b'; do
+  along 3 3 "$path_blocks" --root "https://ipfs.io/ipfs/$tree_text/in$rest" --segment c
+  along 3 3 "$path_blocks" --root "ipfs://$tree_text/in/c/$rest"
+done
+for root in "$tree_text/in?" "https://x/ipfs/$tree_text/in%3f?"; do
+  run get --blocks blocks.car --out out/a.car --root "$root"
+  expect 4 '' "--root: no key \`in%3F\` in $tree_text: it has \`\`, \`0\`, \`..\`, \`in\`, \`li\`, \`a%2Fb\`"
+done
+
+# The keys %, A, a comma and a blank, an e with an acute accent, %41, U+202E and a dot, and 260 times a, in the order of DAG-CBOR.
+# Each is printed so that it is that key as a segment, but for the last one, which is cut.
+begin 'paths: keys are printed as segments'
+long=$(repeated 260 61)
+odd=a7612501614102622c200362c3a904632534310564e280ae2e06790104${long}07
+odd_text=$(text "$(cbor "$odd")")
+write_blocks "$(section "$(cbor "$odd")" "$odd")"
+odd_keys="\`%25\`, \`A\`, \`%2C%20\`, \`é\`, \`%2541\`, \`%E2%80%AE.\`, \`$(printf 'a%.0s' $(seq 256))..\`"
+leads_nowhere no-key "$odd_text" "no key \`x\` in $odd_text: it has $odd_keys" "$odd_text/x"
+at=0
+for key in %25 A %2C%20 é %2541 %E2%80%AE.; do
+  run show --blocks blocks.car "$odd_text/$key"
+  expect 0 "$((++at))" ''
+done
+run show --blocks blocks.car "$odd_text/%41"
+expect 0 2 ''
+
 begin 'paths: a value within a block ends with that block'
 write_blocks "$path_blocks"
 along 1 1 "$tree_section" --root "$tree_text/.."
@@ -62,6 +103,9 @@ along 1 1 "$tree_section" --root "$tree_text/" --scope block
 along 1 1 "$tree_section" --root "$tree_text" --scope block
 along 3 3 "$path_blocks" --root "$tree_text/in" --selector '{"f":{"f>":{"c":{".":{}}}}}'
 along 2 2 "$tree_section$inner_section" --root "$tree_text/li/0" --selector-hex a1612ea0
+for nothing in '{"|":[]}' '{"|":[{"|":[]}]}'; do
+  along 2 2 "$tree_section$inner_section" --root "$tree_text/in" --selector "$nothing"
+done
 
 begin 'paths: through the digest of an identity CID'
 over_inline=a16178$(link "$(cbor_inline "$inner")")
@@ -78,28 +122,34 @@ run get --blocks blocks.car --root "$tree_text/in/c,$(text "$other_cid")/in/c" -
 got 0 '' "$(header "$tree_cid" "$other_cid")" "$tree_section" "$inner_section" "$abc_section" "$(section "$other_cid" "$other")"
 in_list=81$(link "$inner_cid")
 write_blocks "$path_blocks" "$(section "$(cbor "$in_list")" "$in_list")"
-leads_nowhere 'the path is by keys from one root and by indexes from another: give one `get` per root' \
-  --root "$tree_text/0,$(text "$(cbor "$in_list")")/0"
+other_steps='the path is by keys from one root and by indexes from another: give one `get` per root'
+run get --blocks blocks.car --out out/a.car --root "$tree_text/0,$(text "$(cbor "$in_list")")/0" --json
+expect 2 '' "--root: $other_steps
+{\"error\":\"path\",\"message\":\"--root: $other_steps\"}"
+expect_folder out
 
 begin 'paths: a segment that is not there'
 write_blocks "$path_blocks"
-leads_nowhere "no key \`covr\` in $tree_text: it has \`\`, \`0\`, \`..\`, \`in\`, \`li\`, \`a/b\`" --root "$tree_text/covr"
-leads_nowhere "no key \`e\` in $inner_text: it has \`c\`, \`d\`" --root "$tree_text/in/e/f"
-leads_nowhere "no index \`2\` in $tree_text: there is a list of 2" --root "$tree_text/li/2"
-leads_nowhere "no index \`01\` in $tree_text: there is a list of 2" --root "$tree_text/li/01"
-leads_nowhere "no index \`in\` in $tree_text: there is a list of 2" --root "$tree_text/li/in"
-leads_nowhere "nothing at \`x\` in $tree_text: there is a value of kind integer" --root "$tree_text/../x"
-leads_nowhere "nothing at \`x\` in $abc_text: there is a value of kind bytes" --root "$tree_text/0/x"
-leads_nowhere "no key \`%00%FF\` in $inner_text: it has \`c\`, \`d\`" --root "$tree_text/in/%00%ff"
+leads_nowhere no-key "$tree_text" "no key \`covr\` in $tree_text: it has \`\`, \`0\`, \`..\`, \`in\`, \`li\`, \`a%2Fb\`" "$tree_text/covr"
+leads_nowhere no-key "$inner_text" "no key \`e\` in $inner_text: it has \`c\`, \`d\`" "$tree_text/in/e/f"
+leads_nowhere no-index "$tree_text" "no index \`2\` in $tree_text: there is a list of 2" "$tree_text/li/2"
+leads_nowhere no-index "$tree_text" "no index \`01\` in $tree_text: there is a list of 2" "$tree_text/li/01"
+leads_nowhere no-index "$tree_text" "no index \`in\` in $tree_text: there is a list of 2" "$tree_text/li/in"
+leads_nowhere no-child "$tree_text" "nothing at \`x\` in $tree_text: there is a value of kind integer" "$tree_text/../x"
+leads_nowhere no-child "$abc_text" "nothing at \`x\` in $abc_text: there is a value of kind bytes" "$tree_text/0/x"
+leads_nowhere no-key "$inner_text" "no key \`%00%FF\` in $inner_text: it has \`c\`, \`d\`" "$tree_text/in/%00%ff"
+
+run get --blocks blocks.car --root "$tree_text" --segment -1 --out out/a.car
+expect 4 '' "--root: no key \`-1\` in $tree_text: it has \`\`, \`0\`, \`..\`, \`in\`, \`li\`, \`a%2Fb\`"
 
 begin 'paths: a block on the way that is missing, damaged, malformed or not read'
 write_blocks "$tree_section$inner_section"
-leads_nowhere "missing $abc_text" --root "$tree_text/in/c"
+leads_nowhere missing "$abc_text" "missing $abc_text" "$tree_text/in/c"
 write_blocks "$tree_section$(section "$inner_cid" "${inner}00")$abc_section"
-leads_nowhere "damaged $inner_text" --root "$tree_text/in/c"
+leads_nowhere damaged "$inner_text" "damaged $inner_text" "$tree_text/in/c"
 write_blocks "$(section "$(cbor ff)" ff)"
-leads_nowhere "malformed $(text "$(cbor ff)")" --root "$(text "$(cbor ff)")/a"
-leads_nowhere "codec $(text "01701220$(digest 0a)")" --root "$(text "01701220$(digest 0a)")/a"
+leads_nowhere malformed "$(text "$(cbor ff)")" "malformed $(text "$(cbor ff)"): indefinite length at 0" "$(text "$(cbor ff)")/a"
+leads_nowhere codec "$(text "01701220$(digest 0a)")" "codec $(text "01701220$(digest 0a)")" "$(text "01701220$(digest 0a)")/a"
 
 begin 'paths: roots that are no paths, before a file is read'
 is_no_path "invalid value for '--root <ROOT>': '$tree_text/%zz': no two hex digits after the % at byte 60" --root "$tree_text/%zz"
@@ -138,12 +188,14 @@ run jobs --blocks blocks.car --jobs jobs.txt --out out
 expect_bytes out/photos.car "$(header "$tree_cid")" "$path_blocks"
 run job photos "$tree_text/li/1" 9 --blocks blocks.car --scope block
 expect 0 "photos $tree_text 9 a16166a162663ea1626c69a16169a2613ea1612ea0616901" ''
+run job photos "$tree_text/li/1" 9 '{"|":[]}' --blocks blocks.car
+expect 0 "photos $tree_text 9 a16166a162663ea1626c69a16169a2613ea1612ea0616901" ''
 run job photos "$tree_text/li/0" 9 '{"f":{"f>":{"c":{".":{}}}}}' --blocks - <blocks.car
 expect 0 "photos $tree_text 9 a16166a162663ea1626c69a16169a2613ea16166a162663ea16163a1612ea0616900" ''
 run job photos "$tree_text/li/0" 9 '{"selector":{"f":{"f>":{"c":{".":{}}}}}}' --blocks blocks.car
 expect 0 "photos $tree_text 9 a16166a162663ea1626c69a16169a2613ea16166a162663ea16163a1612ea0616900" ''
 run job photos "$tree_text/in/e" 9 --blocks blocks.car
-expect 2 '' "no key \`e\` in $inner_text: it has \`c\`, \`d\`"
+expect 3 '' "no key \`e\` in $inner_text: it has \`c\`, \`d\`"
 run job photos "$tree_text/in" 0 --blocks blocks.car
 expect_text 'exit status' 2 "$status"
 expect_text 'the field' LIMIT "$(grep -oE '^LIMIT' "$scratch/stderr")"
@@ -167,7 +219,7 @@ run show --blocks blocks.car "$tree_text/in/c"
 expect 0 '{"/":{"bytes":"YWJj"}}' ''
 for command in block show; do
   run $command --blocks blocks.car "$tree_text/in/e"
-  expect 2 '' "no key \`e\` in $inner_text: it has \`c\`, \`d\`"
+  expect 3 '' "no key \`e\` in $inner_text: it has \`c\`, \`d\`"
 done
 write_blocks "$tree_section"
 for command in block show; do

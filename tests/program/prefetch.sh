@@ -96,7 +96,7 @@ write_blocks "$(section "$(cbor "$block")" "$block")" "$sections"
 run get --blocks blocks.car --root "$wide_root" --prefetch off --out whole.car
 for delay in 0.001 0.003 0.005 0.01 0.02 0.03; do
   rm -rf out && mkdir out
-  { timeout -s KILL "$delay" "$top/ix_export" get --blocks blocks.car --root "$wide_root" --prefetch on --out out/a.car || :; } >/dev/null 2>&1
+  { timeout -s KILL "$delay" "$program" get --blocks blocks.car --root "$wide_root" --prefetch on --out out/a.car || :; } >/dev/null 2>&1
   [ ! -e out/a.car ] || expect_same "out/a.car after $delay" whole.car out/a.car
 done
 run get --blocks blocks.car --root "$wide_root" --prefetch on --out out/a.car

@@ -53,7 +53,7 @@ total jobs=2 done=1 skips=0" ''
 # of_terminal WORD..: what a command writes to a terminal that is both its outputs, a state of the line a line.
 of_terminal() {
   status=0
-  script -qec "$(printf '%q ' "$top/ix_export" "$@")" /dev/null </dev/null >"$scratch/terminal" || status=$?
+  script -qec "$(printf '%q ' "$program" "$@")" /dev/null </dev/null >"$scratch/terminal" || status=$?
   tr '\r' '\n' <"$scratch/terminal" | sed $'s/\x1b\\[?7l//; s/\x1b\\[K\x1b\\[?7h$//' | grep -v '^$' >"$scratch/stdout" || true
 }
 

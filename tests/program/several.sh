@@ -48,11 +48,11 @@ refused 'blocks: truncated at 18 in cut.car'
 run jobs --blocks cut.car --jobs jobs.txt --out out
 refused 'blocks: truncated at 18'
 run "${get_of[@]}" --blocks a.car --blocks cut.car
-refused 'blocks: truncated at 18 in cut.car: ix_export inspect says how to keep the sections before it'
+refused 'cut.car: truncated at 18: ix_export inspect says how to keep the sections before it'
 : >empty.car
 run "${get_of[@]}" --blocks empty.car --blocks a.car
 expect_text 'exit status' 2 "$status"
-expect_text 'the beginning' 'blocks: truncated at 0 in empty.car: ' "$(cut -c 1-37 "$scratch/stderr")"
+refused 'empty.car: truncated at 0: an empty file'
 run jobs --blocks a.car --blocks none.car --jobs jobs.txt --out out
 refused 'cannot read none.car'
 mkdir folder.car
@@ -130,9 +130,13 @@ begin 'a file that is larger than the memory that is available'
 truncate -s 1T blocks.car
 run get --blocks blocks.car --root "$one_text" --out out/a.car
 expect_text 'exit status' 2 "$status"
-expect_text 'the line' 'too large blocks.car: it has 1099511627776 bytes, and N bytes of memory are available: split it, or use a machine with more' \
+expect_text 'the line' 'too large blocks.car: it has 1099511627776 bytes, and N bytes of memory are available: free some, or use a machine with more' \
   "$(sed 's/and [0-9]* bytes/and N bytes/' "$scratch/stderr")"
 expect_folder out
+bytes "$one_archive" >first.car
+run get --blocks first.car --blocks blocks.car --root "$one_text" --out out/a.car
+expect_text 'the line for two files' "too large blocks.car: it and the files before it have $(((1 << 40) + $(wc -c <first.car))) bytes, and N bytes of memory are available: free some, or use a machine with more" \
+  "$(sed 's/and [0-9]* bytes of/and N bytes of/' "$scratch/stderr")"
 
 # A block of 2^32 + 5 bytes, which take no room on the disk, and a block after it. It takes some 4.3 GB of memory.
 if (($(awk '/^MemAvailable:/ { print $2 }' /proc/meminfo) > 6000000)); then

@@ -77,6 +77,7 @@ run get --blocks blocks.car --root "$nested_text/in" --paths --out out/a.car
 expect_text 'the skips' "$(skip 3 codec "$(text "$other_codec")" "$nested_text/in/0/x")
 $(skip 4 hash "$(text "$other_hash")" "$nested_text/in/1")" "$(sed -n '2,3p' "$scratch/stderr")"
 write_blocks "$nested_block" "$(section "$listed_cid" "${listed}00")"
+rm out/a.car
 run get --blocks blocks.car --root "$nested_text" --paths --out out/a.car
 expect_text 'the skips' "$(skip 2 missing "$abc_text" "$nested_text/l")
 $(skip 3 damaged "$(text "$listed_cid")" "$nested_text/in")
@@ -108,6 +109,7 @@ second=$(skip 4 missing "$abc_text" "$twice_text/1/m")
 run get --blocks blocks.car --root "$twice_text" --paths --out out/a.car
 expect_text 'once' "$first
 total jobs=1 done=1 skips=1" "$(sed 1d "$scratch/stderr")"
+rm out/a.car
 run get --blocks blocks.car --root "$twice_text" --paths --every-arrival --out out/a.car
 expect_text 'at every link' "$first
 $second
@@ -125,10 +127,34 @@ with_path() {
 run get --blocks blocks.car --without blocks.car --root "$nested_text" --allow-missing raw --paths --json --out out/a.car
 expect 3 '' "{\"job\":\"get\",\"end\":\"done\",\"visits\":7,\"kept\":7,\"sections\":0,\"bytes\":59,\"known\":2,\"absent\":1,\"file\":\"out/a.car\",\"skips\":[$(with_path 5 codec "$(text "$other_codec")" "$nested_text/in/0/x"),$(with_path 6 hash "$(text "$other_hash")" "$nested_text/in/1")]}
 {\"total\":{\"jobs\":1,\"done\":1,\"skips\":2}}"
+rm out/a.car
 run get --blocks blocks.car --without blocks.car --root "$nested_text" --allow-missing raw --paths --prefer-sound --out out/a.car
 expect 3 '' "get done visits=7 kept=7 sections=0 bytes=59 known=2 absent=1
 $(sed 1d <<<"$nested_skips")
 total jobs=1 done=1 skips=2"
+
+begin 'paths of skips: why bytes are malformed, as JSON alone'
+bad=a2626161016161
+ends=$(cbor_inline 8102ff)
+bad_links=83$(link "$(cbor "$bad")")$(link "$ends")$(link "$abc_cid")
+bad_text=$(text "$(cbor "$bad_links")")
+bad_block=$(section "$(cbor "$bad_links")" "$bad_links")
+write_blocks "$bad_block" "$(section "$(cbor "$bad")" "$bad")"
+with_cause() {
+  printf '{"visit":%s,"verdict":"malformed","cid":"%s","path":"%s","cause":"%s","offset":%s}' "$@"
+}
+causes="$(with_cause 1 "$(text "$(cbor "$bad")")" "$bad_text/0" 'key order' 5),$(with_cause 2 "$(text "$ends")" "$bad_text/1" 'bytes after the item' 2),$(with_path 3 missing "$abc_text" "$bad_text/2")"
+bad_bytes=$(((118 + ${#bad_block}) / 2))
+run get --blocks blocks.car --root "$bad_text" --paths --json --out out/a.car
+expect 3 '' "{\"job\":\"get\",\"end\":\"done\",\"visits\":4,\"kept\":4,\"sections\":1,\"bytes\":$bad_bytes,\"file\":\"out/a.car\",\"skips\":[$causes]}
+{\"total\":{\"jobs\":1,\"done\":1,\"skips\":3}}"
+write_jobs "a $bad_text 9 $all"
+run jobs "${inputs[@]}" --out out --paths --json
+expect_text 'the skips' "[$causes]" "$(sed -nE 's/.*"skips":(\[.*\])\}$/\1/p' "$scratch/stdout")"
+run jobs "${inputs[@]}" --out out --paths
+expect_text 'the skips' "  1 malformed $(text "$(cbor "$bad")") $bad_text/0
+  2 malformed $(text "$ends") $bad_text/1
+  3 missing $abc_text $bad_text/2" "$(grep '^  ' "$scratch/stdout")"
 
 begin 'paths of skips: of each job of a file, and of a part of it'
 write_blocks "$twice_blocks" "$nested_block" "$listed_block"
@@ -149,9 +175,11 @@ $of_c
 total jobs=3 done=3 skips=8" "$(grep -v '^c ' "$scratch/stdout")"
 run jobs "${inputs[@]}" --out out --paths --json
 expect_text 'the object of the second' "[$(with_path 2 missing "$abc_text" "$nested_text/l"),$(with_path 5 codec "$(text "$other_codec")" "$nested_text/in/0/x"),$(with_path 6 hash "$(text "$other_hash")" "$nested_text/in/1")]}" "$(sed -n '2s/.*"skips"://p' "$scratch/stdout")"
+rm out/*
 run jobs "${inputs[@]}" --out out --paths --part 2/3
 expect 3 "$of_b
 total jobs=1 done=1 skips=3" ''
+rm out/*
 run jobs "${inputs[@]}" --out out --paths --part 1/3 --once --json
 expect 3 "{\"job\":\"a\",\"end\":\"done\",\"visits\":4,\"kept\":4,\"sections\":2,\"bytes\":$(((118 + ${#twice_blocks}) / 2)),\"file\":\"out/a.car\",\"skips\":[$(with_path 2 missing "$abc_text" "$twice_text/0/m")]}
 {\"total\":{\"jobs\":1,\"done\":1,\"skips\":1}}" ''

@@ -103,7 +103,7 @@ if unshare --mount --map-root-user mount -t tmpfs -o size=64k none out 2>/dev/nu
   unshare --mount --map-root-user bash -c '
     mount -t tmpfs -o size=64k none out && printf old >out/a.car && "$@" && exit; status=$?
     ls -A out >files; cat out/a.car >archive; exit "$status"' bash \
-    "$top/ix_export" jobs --blocks blocks.car --jobs jobs.txt --out out >"$scratch/stdout" 2>"$scratch/stderr" &&
+    "$program" jobs --blocks blocks.car --jobs jobs.txt --out out >"$scratch/stdout" 2>"$scratch/stderr" &&
     status=0 || status=$?
   sed -i 's/bytes=.*/bytes/' "$scratch/stdout"
   expect 4 'a write visits=0 kept=0 sections=0 bytes
@@ -118,11 +118,17 @@ long_block 100000
 write_blocks "$one_blocks" "$(section "$long_cid" "$long")"
 write_jobs "a $(text "$long_cid") 1 $matcher" "b $one_job"
 bytes "$(repeated 300 ff)" >out/b.car
-{ (ulimit -c 0 -f 16 && exec "$top/ix_export" jobs --blocks blocks.car --jobs jobs.txt --out out) ||
+{ (ulimit -c 0 -f 16 && exec "$program" jobs --blocks blocks.car --jobs jobs.txt --out out) ||
   status=$?; } >"$scratch/stdout" 2>/dev/null
 expect 153 '' ''
-expect_folder out a.car.part b.car b.car.part
-expect_bytes out/b.car "$(repeated 300 ff)"
+# The other job had ended or not.
+if [ -e out/b.car.part ]; then
+  expect_folder out a.car.part b.car b.car.part
+  expect_bytes out/b.car "$(repeated 300 ff)"
+else
+  expect_folder out a.car.part b.car
+  expect_bytes out/b.car "$one_archive"
+fi
 run_jobs
 expect 0 "a done visits=1 kept=1 sections=1 bytes=$((59 + 3 + 36 + 100000))
 b $one_line
@@ -132,16 +138,16 @@ expect_bytes out/a.car "$(header "$long_cid")" "$(section "$long_cid" "$long")"
 expect_bytes out/b.car "$one_archive"
 
 # The first job takes long enough for a folder to come into the place of its archive while it runs.
-begin 'an archive that finds its name taken: the report, the other archives, and a line'
+begin 'an archive that finds its name taken: its job ends with write, the others have their names'
 write_blocks "$one_blocks" "$(section "$self_cid" "81$(link "$self_cid")")"
 write_jobs "a $(text "$self_cid") 1000000 $all" "b $one_job"
 (until [ -e out/b.car.part ]; do :; done; mkdir out/a.car) &
 run_jobs
 wait
-expect 2 "a limit visits=1000000 kept=1 sections=0 bytes=59
+expect 4 "a write visits=1000000 kept=1 sections=0 bytes=59
   0 damaged bafyrei$(repeated 52 a)
 b $one_line
-total jobs=2 done=1 skips=1" 'cannot write out/a.car'
+total jobs=2 done=1 skips=1" 'cannot write out/a.car: Is a directory (os error 21)'
 expect_folder out a.car a.car.part b.car
 expect_bytes out/a.car.part "$(header "$self_cid")"
 expect_bytes out/b.car "$one_archive"
@@ -193,7 +199,6 @@ without_folder() {
   unshare --mount --map-root-user bash -c 'mount -t tmpfs none "$1" && shift && exec "$@"' bash "$@"
 }
 
-program=$("$top/ix_export" --where)
 if without_folder /dev true 2>/dev/null; then
   begin 'standard output is closed, and there is no /dev/null'
   write_blocks "$one_blocks"

@@ -58,9 +58,23 @@ short=01551202ba78
 write_blocks "$(section "$(cbor 1805)" 1805)$(section "$foreign" "$abc")$(section "$short" "$abc")$(section "$inline" "$abc")$(section "$inline" 616264)"
 run verify blocks.car
 expect 3 "blocks.car broken sections=5 bytes=$(wc -c <blocks.car) unsound=3 skips=0
-  section 18 malformed $(text "$(cbor 1805)")
+  section 18 malformed $(text "$(cbor 1805)"): not shortest at 0
   section 97 hash $(text "$short")
   section 118 damaged $(text "$inline")" ''
+
+begin 'verify: the first error of what is malformed, of sections and of links, as text and as JSON'
+bad=a2626161016161
+ends=$(cbor_inline 8102ff)
+links=82$(link "$(cbor "$bad")")$(link "$ends")
+bytes "$(header "$(cbor "$links")")$(section "$(cbor "$links")" "$links")$(section "$(cbor "$bad")" "$bad")" >blocks.car
+place=$(($(wc -c <blocks.car) - 1 - 36 - ${#bad} / 2))
+run verify blocks.car
+expect 3 "blocks.car broken sections=2 bytes=$(wc -c <blocks.car) unsound=1 skips=2
+  section $place malformed $(text "$(cbor "$bad")"): key order at 5
+  link malformed $(text "$(cbor "$bad")"): key order at 5
+  link malformed $(text "$ends"): bytes after the item at 2" ''
+run verify blocks.car --json
+expect 3 "{\"file\":\"blocks.car\",\"outcome\":\"broken\",\"sections\":2,\"bytes\":$(wc -c <blocks.car),\"unsound\":1,\"skips\":2,\"findings\":[{\"section\":$place,\"verdict\":\"malformed\",\"cid\":\"$(text "$(cbor "$bad")")\",\"cause\":\"key order\",\"offset\":5},{\"link\":\"malformed\",\"cid\":\"$(text "$(cbor "$bad")")\",\"cause\":\"key order\",\"offset\":5},{\"link\":\"malformed\",\"cid\":\"$(text "$ends")\",\"cause\":\"bytes after the item\",\"offset\":2}],\"more\":0}" ''
 
 # What dag-pb links to isn't followed, so a root of it leaves the file unsupported. Its section is judged all the same, under a
 # CID of either version.
@@ -168,12 +182,17 @@ expect 3 "damaged.car broken sections=2 bytes=178 unsound=1 skips=1 absent=0
   section 138 damaged $abc_text
   link damaged $abc_text" ''
 
-begin 'verify: other words for what may be missing'
-for which in '' none RAW raw, ,raw 'raw, dag-cbor' all,raw dag-pb; do
+begin 'verify: other words for what may be missing, which are those of get'
+for which in '' none RAW raw, ,raw 'raw, dag-cbor' dag-pb; do
+  word=${which#raw,}
+  word=${word%,raw}
   run verify links.car --allow-missing "$which"
   expect_text 'exit status' 2 "$status"
-  expect_text 'the first line' "error: invalid value '$which' for '--allow-missing <WHICH>': WHICH is raw, dag-cbor, both with one comma between, or all" "$(head -n 1 "$scratch/stderr")"
+  expect_text 'the first line' "error: invalid value '$which' for '--allow-missing <WHICH>': '$word' is none of raw, dag-cbor and all" "$(head -n 1 "$scratch/stderr")"
 done
+bytes "$(header "$one_cid")$(section "$one_cid" "$one")" >links.car
+run verify links.car --allow-missing raw,all
+expect_text 'exit status' 0 "$status"
 
 begin 'verify: under SHA-512'
 bytes "$(header "$(cbor_512 "$one")")$(section "$(cbor_512 "$one")" "$one")$(section "$abc_cid" "$abc")" >blocks.car
@@ -305,6 +324,74 @@ for once in '' --once; do
   expect 0 "out/one.car sound sections=2 bytes=178
 out/two.car sound sections=2 bytes=219" ''
 done
+
+# The list of one link, whose block is missing or damaged.
+begin 'verify --paths: each link with its path, and a section with that of the link to it'
+bytes "$(header "$one_cid")$(section "$one_cid" "$one")" >lacks.car
+bytes "$(header "$one_cid")$(section "$abc_cid" 616264)$one_blocks" >damaged.car
+bytes "$one_archive" >whole.car
+run verify --paths lacks.car damaged.car whole.car
+expect 3 "lacks.car incomplete sections=1 bytes=138 unsound=0 skips=1
+  link missing $abc_text $one_text/0
+damaged.car broken sections=3 bytes=218 unsound=1 skips=1
+  section 59 damaged $abc_text $one_text/0
+  link damaged $abc_text $one_text/0
+whole.car sound sections=2 bytes=178" ''
+run verify --paths --json lacks.car
+expect 3 "{\"file\":\"lacks.car\",\"outcome\":\"incomplete\",\"sections\":1,\"bytes\":138,\"unsound\":0,\"skips\":1,\"findings\":[{\"link\":\"missing\",\"cid\":\"$abc_text\",\"path\":\"$one_text/0\"}],\"more\":0}" ''
+run verify --paths --blocks-only whole.car
+expect_text 'exit status' 2 "$status"
+
+begin 'verify --paths: a root that is named twice, and more than 64 of them'
+bytes "$(header "$abc_cid" "$abc_cid")" >twice.car
+run verify --paths twice.car
+expect 3 "twice.car incomplete sections=0 bytes=$(wc -c <twice.car) unsound=0 skips=1
+  link missing $abc_text $abc_text" ''
+roots=()
+for number in $(seq 10 74); do
+  roots+=("01551220$(digest "$number")")
+done
+bytes "$(header "${roots[@]}")" >many.car
+run verify --paths many.car
+expect_text 'exit status' 3 "$status"
+expect_lines 'standard error' 'note: links have no paths: they are followed from more than 64 roots' "$scratch/stderr"
+expect_text 'first link' "  link missing $(text "${roots[0]}")" "$(sed -n 2p "$scratch/stdout")"
+
+begin 'verify --jobs: the archives of a folder, also one that ended at its limit and one that is not there'
+write_blocks "$one_blocks"
+write_jobs '# jobs of one list' "one $(text "$one_cid") 100 $all" "low $(text "$one_cid") 1 $all" "two $abc_text,$(text "$one_cid") 100 $all"
+run jobs --blocks blocks.car --jobs jobs.txt --out out
+run verify --jobs jobs.txt out
+expect 3 "out/one.car sound sections=2 bytes=178
+out/low.car incomplete sections=1 bytes=138 unsound=0 skips=1
+  link missing $abc_text
+out/two.car sound sections=2 bytes=219" ''
+cp out/one.car out/low.car
+run verify --jobs jobs.txt out --exact
+expect 0 "out/one.car sound sections=2 bytes=178
+out/low.car sound sections=2 bytes=178
+out/two.car sound sections=2 bytes=219" ''
+cp out/two.car out/one.car
+rm out/low.car
+run verify --jobs jobs.txt out
+expect 3 "out/one.car inexact sections=2 bytes=219 unsound=0 skips=0
+  exact 0 header
+out/low.car no-file
+out/two.car sound sections=2 bytes=219" ''
+run verify --jobs jobs.txt out --json --quiet
+expect 3 '{"file":"out/one.car","outcome":"inexact","sections":2,"bytes":219,"unsound":0,"skips":0,"findings":[],"more":0,"exact":{"place":0,"reason":"header"}}
+{"file":"out/low.car","outcome":"no-file"}' ''
+run verify --jobs jobs.txt --part 3/3 out
+expect 0 "out/two.car sound sections=2 bytes=219" ''
+write_jobs "one $(text "$one_cid") 0 $all"
+run verify --jobs jobs.txt out
+refused 'jobs.txt: limit at line 1'
+for more in '--path a' '--selector {".":{}}' '--blocks-only' "--jobs jobs.txt" another; do
+  run verify --jobs jobs.txt out $more
+  expect_text "exit status with $more" 2 "$status"
+done
+run verify --part 1/2 out/two.car
+expect_text 'exit status' 2 "$status"
 
 # Whatever bit of the file is turned and wherever it is cut, it isn't called sound, unless it is cut between sections.
 begin 'verify: a small file with the lowest bit of a byte turned, or cut'

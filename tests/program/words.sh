@@ -87,13 +87,13 @@ Usage: ix_export job [OPTIONS] <NAME> <ROOT[,ROOT..]> <LIMIT> [JSON]
 
 Arguments:
   <NAME>           1 to 64 characters of [a-z0-9_-]
-  <ROOT[,ROOT..]>  1 to 64 comma-separated CIDv1s, or CID/PATH
+  <ROOT[,ROOT..]>  1 to 64 comma-separated CIDs, or CID/PATH
   <LIMIT>          Link budget, 1 to the N of --max-limit
   [JSON]           IPLD selector as JSON, or - for standard input
 
 Options:
       --blocks <FILE>     CARv1 file in which paths lead; several add up
-      --scope <SCOPE>     all below the end of the path, or its block alone
+      --scope <SCOPE>     all|block|entity at the path's end [default: all]
       --max-limit <N>     Greatest LIMIT, to 4294967295 [default: 1000000]
       --max-input <SIZE>  Greatest size of an input, such as 4G
       --carv2             Read CARv2 files too, as the CARv1 in them
@@ -112,8 +112,8 @@ followed in the files of --blocks, and the selector of the line goes along it.
 Then JSON is the selector from its end, everything without JSON, or with --scope
 block the block in which the path ends alone.
 
-Status: 0 if a line was printed, 2 if an argument is rejected or a path leads no
-further, with a line on standard error that says why." ''
+Status: 0 if a line was printed, 3 if a path leads no further, 2 if an argument
+or a file is rejected, with a line on standard error that says why." ''
 for command in get jobs selector verify; do
   title="the help of $command: its examples are indented"
   run "$command" --help
@@ -125,12 +125,13 @@ run root $'a\xff b'
 refused "error: an argument is not UTF-8: number 2, 'a\\xff b'"
 
 # The version names the logic of the kit that made the program; after it is the folder that the program is from.
-program=$("$top/ix_export" --where)
-made_with=$(cat "${program%/*}/KIT")
+folder=$(dirname "$("$top/ix_export" --where)")
+made_with=$(cat "$folder/KIT")
 for word in --version -V; do
   begin "the version, by $word"
   run "$word"
-  from=${program%/*}
-  expect 0 "ix_export 1.0.0, proved in Rattle's ${made_with#* }
-taken from ${from##*/}/, made with $made_with" ''
+  expect 0 "ix_export 1.0.0, proved in Rattle's ${made_with#* }" ''
+  "$top/ix_export" "$word" >"$scratch/stdout"
+  expect_lines 'standard output of ./ix_export' "ix_export 1.0.0, proved in Rattle's ${made_with#* }
+taken from ${folder##*/}/, made with $made_with" "$scratch/stdout"
 done
