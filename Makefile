@@ -1,4 +1,4 @@
-# Installs the program that ./ix_export takes, or the one that PROGRAM names, with its man page and completions:
+# Installs the program that ./ix_export takes, or the one that PROGRAM names, with its man page, completions and documents:
 #
 #   make install PREFIX=$HOME/.local
 #   make uninstall PREFIX=$HOME/.local
@@ -22,6 +22,8 @@ files := \
   $(share)/bash-completion/completions/ix_export \
   $(share)/zsh/site-functions/_ix_export \
   $(share)/fish/vendor_completions.d/ix_export.fish
+doc := $(share)/doc/ix_export
+docs := $(wildcard docs/*.md)
 lib_files := \
   $(DESTDIR)$(PREFIX)/lib/libix_export.a \
   $(DESTDIR)$(PREFIX)/lib/pkgconfig/ix_export.pc \
@@ -39,6 +41,8 @@ install:
 	install -D -m 644 install/ix_export.bash "$(word 3,$(files))"; \
 	install -D -m 644 install/_ix_export "$(word 4,$(files))"; \
 	install -D -m 644 install/ix_export.fish "$(word 5,$(files))"; \
+	install -d "$(doc)"; \
+	install -m 644 $(docs) "$(doc)"; \
 	[ ! -e "$(LIBRARY)" ] || $(MAKE) --no-print-directory install-lib
 
 lib:
@@ -51,7 +55,8 @@ install-lib:
 	install -D -m 644 include/ix_export.h "$(word 3,$(lib_files))"
 
 uninstall:
-	@rm -f $(files) $(lib_files)
+	@rm -f $(files) $(lib_files) $(docs:docs/%=$(doc)/%); \
+	[ ! -d "$(doc)" ] || rmdir --ignore-fail-on-non-empty "$(doc)"
 
 test:
 	@tests/quick.sh

@@ -48,17 +48,17 @@ _ix_export() {
     --root | --segment | --path | --selector | --selector-hex | --limit | --max-limit | --cid | --hex | --part | --max-input | --max-block) return ;;
   esac
   case $command in
-    get) it='--blocks --root --segment --scope --selector --selector-hex --limit --once --every-arrival --without --without-list --allow-missing --out -o --walkers --verifiers --prefetch --max-input --carv2 --prefer-sound --complete --partial --sync --no-sync --paths --json --progress --quiet -q --verbose -v --help -h' ;;
-    jobs) it='--blocks --jobs --out -o --part --without --without-list --allow-missing --max-limit --walkers --verifiers --prefetch --max-input --carv2 --prefer-sound --once --every-arrival --complete --partial --sync --no-sync --paths --json --progress --quiet -q --verbose -v --help -h' ;;
+    get) it='--blocks --root --segment --scope --selector --selector-hex --limit --once --every-arrival --without --without-list --allow-missing --out -o --walkers --verifiers --prefetch --max-input --carv2 --prefer-sound --whole --complete --partial --sync --no-sync --paths --json --progress --quiet -q --verbose -v --help -h' ;;
+    jobs) it='--blocks --jobs --out -o --part --resume --without --without-list --allow-missing --max-limit --walkers --verifiers --prefetch --max-input --carv2 --prefer-sound --once --every-arrival --whole --complete --partial --sync --no-sync --paths --json --progress --quiet -q --verbose -v --help -h' ;;
     job) it='--blocks --scope --max-limit --max-input --carv2 --prefer-sound --quiet -q --help -h' ;;
-    check-jobs) it='--max-limit --max-input --json --quiet -q --help -h' ;;
+    check-jobs) it='--part --max-limit --max-input --json --quiet -q --help -h' ;;
     selector) it='--hex --quiet -q --help -h' ;;
     root) it='--cid --max-input --quiet -q --verbose -v --help -h' ;;
-    block) it='--blocks --out -o --max-input --carv2 --prefer-sound --sync --no-sync --progress --quiet -q --help -h' ;;
-    show) it='--blocks --pretty --max-input --carv2 --prefer-sound --progress --quiet -q --help -h' ;;
+    block) it='--blocks --out -o --max-input --carv2 --prefer-sound --sync --no-sync --json --progress --quiet -q --help -h' ;;
+    show) it='--blocks --pretty --max-input --carv2 --prefer-sound --json --progress --quiet -q --help -h' ;;
     inspect) it='--list --cids --max-input --carv2 --json --quiet -q --help -h' ;;
-    verify) it='--with --prefer-sound --allow-missing --selector --selector-hex --path --scope --exact --blocks-only --all --verifiers --max-input --carv2 --json --progress --quiet -q --help -h' ;;
-    receive) it='--root --scope --selector --selector-hex --limit --with --allow-missing --any-header --out -o --max-block --sync --no-sync --paths --json --progress --quiet -q --verbose -v --help -h' ;;
+    verify) it='--with --prefer-sound --allow-missing --selector --selector-hex --path --scope --jobs --part --exact --blocks-only --all --paths --verifiers --max-input --carv2 --json --progress --quiet -q --help -h' ;;
+    receive) it='--root --scope --selector --selector-hex --limit --with --allow-missing --any-header --out -o --max-block --whole --sync --no-sync --paths --json --progress --quiet -q --verbose -v --help -h' ;;
     *) it='get jobs job check-jobs selector root block show inspect verify receive --help -h --version -V' ;;
   esac
   case $command in
