@@ -681,6 +681,28 @@ def small_sections(runner):
         raise Wrong(f"{len(car)} bytes of small sections took {peaks}")
 
 
+def usual_sections(runner):
+    """A million raw blocks of 8 bytes: `inspect` takes at most a tenth more memory than `jobs` does, and with `--list` hardly more than
+    the file has."""
+    car = [NO_ROOTS]
+    for number in range(1_000_000):
+        block = number.to_bytes(8, "little")
+        car.append(b"\x2c\x01\x55\x12\x20" + hashlib.sha256(block).digest() + block)
+    car = b"".join(car)
+    (runner.room / "usual.car").write_bytes(car)
+    (runner.room / "no-jobs.txt").write_bytes(b"")
+    (runner.room / "no-archives").mkdir(exist_ok=True)
+    jobs = ["jobs", "--blocks", "usual.car", "--jobs", "no-jobs.txt", "--out", "no-archives"]
+    peaks = []
+    for words in (jobs, ["inspect", "usual.car"], ["inspect", "--list", "usual.car"]):
+        told = measured_words(runner, words)
+        if told["status"] != 0:
+            raise Wrong(f"{words[0]} ended with status {told['status']}: {told['error'][:200]!r}")
+        peaks.append(told["peak"])
+    if peaks[1] > 1.1 * peaks[0] or peaks[2] > len(car) + 8 * MIB:
+        raise Wrong(f"{len(car)} bytes of raw blocks took `jobs`, `inspect` and its list {peaks}")
+
+
 def told_memory(runner):
     """`jobs` takes what `inspect` says of a file at most, and no less than two thirds of it."""
     car = NO_ROOTS + b"".join(section(cid(RAW, b"%d" % number), b"%d" % number) for number in range(500_000))
@@ -811,6 +833,7 @@ PARTS = (
     long_selector,
     long_line,
     small_sections,
+    usual_sections,
     told_memory,
     root_named_often,
     roots_with_one_graph,

@@ -1,11 +1,13 @@
 //! The command `inspect`: describes a CARv1 file, or says what another file is.
 
+ghost use Rattle.ix_car.specs.Payload.{IsWithin};
+
 use crate::json_inspect::{Described, fault_object, section_object, summary_object};
 use clap::ArgMatches;
 use ix_car::{
-    CarFault, CarFile, CarKind, Payload, Section, has_index, is_carv2, payload_of, read_sections,
+    CarFault, CarKind, Payload, Section, has_index, is_carv2, payload_of, read_header, read_section,
 };
-use ix_cid::HashFunction;
+use ix_cid::{Cid, HashFunction};
 use ix_cli_io::{ANY_SIZE, ErrorCode, Failure, STANDARD_INPUT, read_input};
 use ix_inspect::{Kind, Summary, codec_name, hash_name, kind_of, summary_of};
 use ix_options::{
@@ -17,6 +19,7 @@ use std::alloc::{AllocError, Global};
 use std::fmt::Write as FmtWrite;
 use std::io::{self, BufWriter, ErrorKind, Write};
 use std::rt::Files;
+use std::sync::Arc;
 use std::thread::Threads;
 
 // The memory that `get` and `jobs` take at most for the blocks of a file, if their CIDs aren't crafted to
@@ -107,6 +110,11 @@ impl Form {
         }
     }
 
+    // Returns whether the file is described, and not its sections one by one.
+    fn is_summary(self) -> bool {
+        matches!(self, Form::Summary | Form::JsonSummary)
+    }
+
     // Returns whether objects are printed.
     fn is_json(self) -> bool {
         matches!(self, Form::JsonSummary | Form::JsonList)
@@ -121,65 +129,100 @@ pub fn run<'a, R: AllocGlobal + Eprint + Files + Input + Print + Threads + Sync>
     let path = FILE.text(words);
     let most = most_input(rt.alloc(), &SPEC, words, ANY_SIZE)?;
     let car = read_input(rt, path, most)?;
-    let (form, is_quiet) = (Form::given(words), QUIET.is_given(words));
-    inspect_car(rt, path, car.as_slice(), form, is_quiet)
-}
-
-// Describes a file, given its bytes, or only says what is wrong with it if that is to be quiet.
-fn inspect_car<R: AllocGlobal + Eprint + Print + Threads + Sync>(
-    rt: &R,
-    path: &str,
-    car: &[u8],
-    form: Form,
-    is_quiet: bool,
-) -> Result<u8, Failure> {
-    let Payload { start, end } = match payload_of(car) {
+    let form = Form::given(words);
+    let payload = match payload_of(car.as_slice()) {
         Ok(payload) => payload,
-        Err(fault) => return refuse(rt, path, car, 0, fault, form),
+        Err(fault) => return refuse(rt, path, car.as_slice(), 0, fault, form),
     };
-    match read_sections(rt.alloc(), &car[start..end]) {
-        Ok(_) if is_quiet => Ok(0),
-        Ok(file) => match form {
-            Form::Summary => summarize(rt, file, car),
-            Form::JsonSummary => describe(rt, path, file, car),
-            _ => list(rt, file.sections.as_slice(), form, start),
-        },
-        Err(fault) => {
-            let place = start.saturating_add(fault.place);
-            refuse(rt, path, car, start, CarFault { place, ..fault }, form)
-        }
+    if QUIET.is_given(words) || !form.is_summary() {
+        list(
+            rt,
+            path,
+            car.as_slice(),
+            payload,
+            form,
+            QUIET.is_given(words),
+        )
+    } else {
+        summarize(rt, path, car, payload, form)
     }
 }
 
-// A line for each section of a CARv1 file that begins at an offset of its file.
+// Prints a line for each section of a file, given its bytes, or only says what is wrong with it if that is to be quiet.
 fn list<R: AllocGlobal + Print>(
     rt: &R,
-    sections: &[Section<'_>],
+    path: &str,
+    car: &[u8],
+    payload: Payload,
     form: Form,
-    start: usize,
-) -> Result<u8, Failure> {
+    is_quiet: bool,
+) -> Result<u8, Failure>
+    requires { IsWithin payload car.now }
+{
+    let Payload { start, end } = payload;
+    let sections = match checked_sections(rt.alloc(), &car[start..end]) {
+        Ok(sections) => sections,
+        Err(fault) => return refuse_part(rt, path, car, start, fault, form),
+    };
+    if is_quiet {
+        return Ok(0);
+    }
     match BufWriter::new(rt.alloc(), io::writer(rt)) {
-        Ok(mut output) => list_to(rt, &mut output, sections, form, start),
+        Ok(mut output) => {
+            let place = end.saturating_sub(sections.len());
+            list_to(rt, &mut output, sections, form, place)
+        }
         Err(_) => Err(Failure::Fault(RunFault::Memory)),
     }
 }
 
+// Returns the bytes after the header of a CARv1 file, in which its sections are, or the first error of the file.
+fn checked_sections(alloc: Global, car: &[u8]) -> Result<&[u8], CarFault> {
+    let (_, sections) = read_header(alloc, car)?;
+    let mut rest = sections;
+    for _ in 0..sections.len() {
+        if rest.is_empty() {
+            break;
+        }
+        match read_section(rest.len(), rest) {
+            Ok((_, after)) => rest = after,
+            Err(CarFault { kind, place }) => {
+                let place = place_of(car.len(), rest).saturating_add(place);
+                return Err(CarFault { kind, place });
+            }
+        }
+    }
+    Ok(sections)
+}
+
+// Returns the offset at which the last bytes of so many begin.
+fn place_of(size: usize, last: &[u8]) -> usize {
+    size.saturating_sub(last.len())
+}
+
+// Prints a line for each of these sections, which are at an offset of their file.
 fn list_to<R: AllocGlobal, W: Write>(
     rt: &R,
     output: &mut W,
-    sections: &[Section<'_>],
+    sections: &[u8],
     form: Form,
     start: usize,
 ) -> Result<u8, Failure> {
-    for section in sections {
+    let mut rest = sections;
+    for _ in 0..sections.len() {
+        let Ok((section, after)) = read_section(rest.len(), rest) else {
+            break;
+        };
+        let place = start.saturating_add(place_of(sections.len(), rest));
         let line = match form {
-            Form::Cids => cid_line(rt.alloc(), section)?.into_bytes(),
-            Form::JsonList => section_object(rt.alloc(), section, start)?,
-            _ => line_of(rt.alloc(), section, start)?.into_bytes(),
+            Form::Cids => cid_line(rt.alloc(), &section)?.into_bytes(),
+            Form::JsonList => section_object(rt.alloc(), &section, place)?,
+            _ => line_of(rt.alloc(), &section, place)?.into_bytes(),
         };
         if let Err(error) = output.write_all(line.as_slice()) {
             return answer_of(rt, &error);
         }
+        rest = after;
     }
     match output.flush() {
         Ok(()) => Ok(0),
@@ -187,8 +230,7 @@ fn list_to<R: AllocGlobal, W: Write>(
     }
 }
 
-fn line_of(alloc: Global, section: &Section<'_>, start: usize) -> Result<String, AllocError> {
-    let place = start.saturating_add(section.place);
+fn line_of(alloc: Global, section: &Section<'_>, place: usize) -> Result<String, AllocError> {
     let size = section.block.len();
     let cid = cid_of(alloc, section)?;
     format!(in alloc; "{place} {size} {cid}\n")
@@ -221,32 +263,49 @@ fn answer_of<R: AllocGlobal>(rt: &R, error: &io::Error) -> Result<u8, Failure> {
 // Prints the summary of a file with these bytes.
 fn summarize<R: AllocGlobal + Print + Threads + Sync>(
     rt: &R,
-    file: CarFile<'_>,
-    car: &[u8],
-) -> Result<u8, Failure> {
-    let text = text_of(rt, file, car)?;
-    print_whole(rt, text.as_bytes())
-}
-
-// Prints the object of a file with these bytes.
-fn describe<R: AllocGlobal + Print + Threads + Sync>(
-    rt: &R,
     path: &str,
-    file: CarFile<'_>,
-    car: &[u8],
-) -> Result<u8, Failure> {
-    let CarFile { roots, sections } = file;
+    car: Vec<u8>,
+    payload: Payload,
+    form: Form,
+) -> Result<u8, Failure>
+    requires { IsWithin payload car.items }
+{
+    let alloc = rt.alloc();
+    let Payload { start, end } = payload;
+    let roots = match read_header(alloc, &car[start..end]) {
+        Ok((roots, _)) => roots,
+        Err(fault) => return refuse_part(rt, path, car.as_slice(), start, fault, form),
+    };
     let described = Described {
         path,
         bytes: car.len(),
-        index: index_of(car),
+        index: index_of(car.as_slice()),
         roots,
     };
-    let threads = available_processors(rt);
-    let summary = summary_of(rt, rt.alloc(), sections, threads)?;
-    let memory = memory_for(car.len(), summary.sections);
-    let object = summary_object(rt.alloc(), &described, &summary, memory)?;
-    print_whole(rt, object.as_slice())
+    let mut car = car;
+    car.truncate(end);
+    let file = Arc::new(alloc, car)?;
+    match summary_of(rt, alloc, &file, start, available_processors(rt)) {
+        Ok(summary) => describe(rt, &described, &summary, form),
+        Err(fault) => refuse_part(rt, path, file.as_slice(), start, fault, form),
+    }
+}
+
+// Prints what a file is.
+fn describe<R: AllocGlobal + Print>(
+    rt: &R,
+    file: &Described<'_>,
+    summary: &Summary,
+    form: Form,
+) -> Result<u8, Failure> {
+    if form.is_json() {
+        let memory = memory_for(file.bytes, summary.sections);
+        let object = summary_object(rt.alloc(), file, summary, memory)?;
+        print_whole(rt, object.as_slice())
+    } else {
+        let text = text_of(rt.alloc(), file, summary)?;
+        print_whole(rt, text.as_bytes())
+    }
 }
 
 // Prints what is all of the output, and returns the status.
@@ -258,24 +317,16 @@ fn print_whole<R: AllocGlobal + Print>(rt: &R, text: &[u8]) -> Result<u8, Failur
 }
 
 // Returns the summary as text.
-fn text_of<R: AllocGlobal + Threads + Sync>(
-    rt: &R,
-    file: CarFile<'_>,
-    car: &[u8],
-) -> Result<String, AllocError> {
-    let alloc = rt.alloc();
-    let mut text = String::from_str(alloc, version_of(car))?;
-    push_roots(alloc, &mut text, &file)?;
-    let CarFile { roots: _, sections } = file;
-    let threads = available_processors(rt);
-    let summary = summary_of(rt, alloc, sections, threads)?;
-    push_summary(&mut text, &summary, car.len())?;
+fn text_of(alloc: Global, file: &Described<'_>, summary: &Summary) -> Result<String, AllocError> {
+    let mut text = String::from_str(alloc, version_of(file.index))?;
+    push_roots(alloc, &mut text, file.roots.as_slice())?;
+    push_summary(&mut text, summary, file.bytes)?;
     Ok(text)
 }
 
-// Returns the lines about the version of a file that was read.
-fn version_of(car: &[u8]) -> &'static str {
-    match index_of(car) {
+// Returns the lines about the version of a file, by whether a CARv2 file has an index.
+fn version_of(index: Option<bool>) -> &'static str {
+    match index {
         None => "version 1\n",
         Some(true) => "version 2\nindex yes\n",
         Some(false) => "version 2\nindex no\n",
@@ -291,9 +342,9 @@ fn index_of(car: &[u8]) -> Option<bool> {
     }
 }
 
-fn push_roots(alloc: Global, text: &mut String, file: &CarFile<'_>) -> Result<(), AllocError> {
-    writeln!(text, "roots {}", file.roots.len())?;
-    for root in &file.roots {
+fn push_roots(alloc: Global, text: &mut String, roots: &[Cid]) -> Result<(), AllocError> {
+    writeln!(text, "roots {}", roots.len())?;
+    for root in roots {
         push_root(text, root.text(alloc))?;
     }
     Ok(())
@@ -362,6 +413,19 @@ fn push_sizes(text: &mut String, summary: &Summary) -> Result<(), AllocError> {
         )?;
     }
     Ok(())
+}
+
+// Prints why a file is rejected whose CARv1 file, which begins at an offset, has this error at an offset of its own.
+fn refuse_part<R: AllocGlobal + Print>(
+    rt: &R,
+    path: &str,
+    car: &[u8],
+    start: usize,
+    fault: CarFault,
+    form: Form,
+) -> Result<u8, Failure> {
+    let place = start.saturating_add(fault.place);
+    refuse(rt, path, car, start, CarFault { place, ..fault }, form)
 }
 
 // Prints why a file is rejected, whose CARv1 file begins at an offset, and what it is.

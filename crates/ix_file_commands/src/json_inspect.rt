@@ -40,15 +40,15 @@ pub(crate) fn summary_object(
     end_object(out)
 }
 
-/// Returns the object of a section of a CARv1 file that begins at an offset.
+/// Returns the object of a section that is at an offset of its file.
 pub(crate) fn section_object(
     alloc: Global,
     section: &Section<'_>,
-    start: usize,
+    place: usize,
 ) -> Result<Vec<u8>, AllocError> {
     let cid = section.cid.to_cid(alloc)?;
     let mut out = begin_object(alloc)?;
-    push_count(&mut out, "place", start.saturating_add(section.place))?;
+    push_count(&mut out, "place", place)?;
     push_count(&mut out, "size", section.block.len())?;
     push_cid(alloc, &mut out, &cid)?;
     end_object(out)

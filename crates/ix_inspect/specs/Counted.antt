@@ -1,24 +1,27 @@
 -- What is counted of sections.
-use Rattle.std.specs.Prelude.{◌≡◌, ℕ, zero, suc, ◌+◌, ◌-◌, ◌%◌, ◌<◌, Bool, List, [], ◌∷◌, ◌++◌, length, ◌==◌, if◌then◌else◌, bytes_eq, count_by, filter, map, slice_get, slice_index_or, Option, Some, None, Result, IfOk}
+use Rattle.std.specs.Prelude.{◌≡◌, ℕ, zero, suc, ◌+◌, Bool, List, [], ◌∷◌, ◌++◌, length, ◌==◌, if◌then◌else◌, bytes_eq, count_by, map, Option, Some, None, Result, Ok, Err, IsSorted, IsPermutation}
 use Rattle.std.specs.List.{list_any}
 use Rattle.std.specs.Ordering.{nat_cmp}
-use Rattle.std.specs.declared.alloc.AllocError.{AllocError}
 use Rattle.std.specs.BTreeMap.{BTreeMap, get}
 use Rattle.ix_cid.specs.Cid.{codec_of, hash_code_of}
-use Rattle.ix_car.specs.declared.reader.sections.Section.{Section}
+use Rattle.ix_car.specs.Reading.{Fault}
+use Rattle.ix_car.specs.Gives.{IsFaultOf}
+use Rattle.ix_car.specs.Sections.{SectionMeaning, section_list}
+use Rattle.ix_car.specs.declared.fault.CarFault.{CarFault}
+use Rattle.ix_inspect.specs.declared.summary.Summary.{Summary}
 
 -- of each of these sections the CID, its codec, the code of its hash function, and the size of the block
-abbrev pub cids_of : List Section → List (List ℕ)
-cids_of sections = map (λ (x : Section). x.cid) sections
+abbrev pub cids_of : List SectionMeaning → List (List ℕ)
+cids_of sections = map (λ (x : SectionMeaning). x.cid) sections
 
-abbrev pub codecs_of : List Section → List ℕ
-codecs_of sections = map (λ (x : Section). codec_of x.cid) sections
+abbrev pub codecs_of : List SectionMeaning → List ℕ
+codecs_of sections = map (λ (x : SectionMeaning). codec_of x.cid) sections
 
-abbrev pub hash_codes_of : List Section → List ℕ
-hash_codes_of sections = map (λ (x : Section). hash_code_of x.cid) sections
+abbrev pub hash_codes_of : List SectionMeaning → List ℕ
+hash_codes_of sections = map (λ (x : SectionMeaning). hash_code_of x.cid) sections
 
-abbrev pub sizes_of : List Section → List ℕ
-sizes_of sections = map (λ (x : Section). length x.block.now) sections
+abbrev pub sizes_of : List SectionMeaning → List ℕ
+sizes_of sections = map (λ (x : SectionMeaning). length x.block) sections
 
 -- a number of times, or none
 abbrev pub if_any : ℕ → Option ℕ
@@ -45,19 +48,31 @@ repeats_after before (c ∷ cs) = (if has_stood before c then 1 else 0) + repeat
 abbrev pub repeats : List (List ℕ) → ℕ
 repeats cids = repeats_after [] cids
 
--- into which of so many shares a CID with this last byte falls
-abbrev pub share_by : ℕ → Option ℕ → ℕ
-share_by shares None = 0
-share_by shares (Some byte) = byte % shares
+-- so many CIDs are among those of a file's sections, each counted once
+abbrev pub HasDistinct : Result (List SectionMeaning) Fault → ℕ → Type 0
+HasDistinct read distinct = (sections : List SectionMeaning) × (read ≡ Ok sections) × (distinct + repeats (cids_of sections) ≡ length sections)
 
-abbrev pub share_of : ℕ → List ℕ → ℕ
-share_of shares c = share_by shares (slice_get c (length c - 1))
+-- what is counted of sections: all but the repeats, with the sizes in the order of the sections
+pub record IsTallied (sections : List SectionMeaning) (s : Summary) : Type 0 where
+  pub count : s.sections ≡ length sections
+  pub codecs : IsTallyOf (codecs_of sections) s.codecs
+  pub hashes : IsTallyOf (hash_codes_of sections) s.hashes
+  pub sizes : s.sizes.items ≡ sizes_of sections
 
--- the CIDs that fall into a share
-abbrev pub in_share : ℕ → ℕ → List (List ℕ) → List (List ℕ)
-in_share shares share cids = filter (λ c. share_of shares c == share) cids
+-- the same of a file's sections
+abbrev pub HasTallied : Result (List SectionMeaning) Fault → Summary → Type 0
+HasTallied read s = (sections : List SectionMeaning) × (read ≡ Ok sections) × IsTallied sections s
 
--- for each of so many shares, how many of its CIDs have was before
-abbrev pub AreCounted : ℕ → List (List ℕ) → List (Result ℕ AllocError) → Type 0
-AreCounted shares cids counts =
-    (share : ℕ) (d : Result ℕ AllocError) → share < shares → IfOk (slice_index_or counts share d) (λ n. n ≡ repeats (in_share shares share cids))
+-- the summary of sections
+pub record IsSummaryOf (sections : List SectionMeaning) (s : Summary) : Type 0 where
+  pub count : s.sections ≡ length sections
+  pub repeated : s.repeated ≡ repeats (cids_of sections)
+  pub codecs : IsTallyOf (codecs_of sections) s.codecs
+  pub hashes : IsTallyOf (hash_codes_of sections) s.hashes
+  pub sizes : IsPermutation (sizes_of sections) s.sizes.items
+  pub sorted : IsSorted nat_cmp s.sizes.items
+
+-- the summary of a file's sections, or its first error
+abbrev pub Summarizes : List ℕ → Result Summary CarFault → Type 0
+Summarizes b (Ok s) = (sections : List SectionMeaning) × (section_list b ≡ Ok sections) × IsSummaryOf sections s
+Summarizes b (Err e) = IsFaultOf b e (section_list b)

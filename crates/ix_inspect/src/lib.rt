@@ -1,9 +1,9 @@
 //! Describes a CAR file and its contents, without hashing.
 //!
 //! ```rust
-//! match read_sections(alloc, bytes) {
-//!     Ok(file) => println!(rt; "{} sections", summary_of(rt, alloc, file.sections, 4)?.sections)?,
-//!     Err(_) => println!(rt; "{:?}", kind_of(bytes))?,
+//! match summary_of(rt, alloc, &file, 0, 4) {
+//!     Ok(summary) => println!(rt; "{} sections", summary.sections)?,
+//!     Err(_) => println!(rt; "{:?}", kind_of(file.as_slice()))?,
 //! }
 //! ```
 #![tactic(auto)]

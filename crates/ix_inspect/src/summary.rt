@@ -1,14 +1,18 @@
 //! The summary of a file.
 
-ghost use Rattle.std.specs.Prelude.{◌≡◌, ◌-◌, ◌/◌, length, slice_get, IfOk, IsSorted, IsPermutation};
-ghost use Rattle.std.specs.Ordering.{nat_cmp};
-ghost use Rattle.ix_inspect.specs.Counted.{cids_of, codecs_of, hash_codes_of, sizes_of, IsTallyOf, repeats};
+ghost use Rattle.std.specs.Prelude.{◌≡◌, ◌-◌, ◌/◌, ◌≤◌, ◌<◌, ◌^◌, ℕ, List, [], ◌∷◌, ◌++◌, length, drop, slice_get, IfOk, IfErr, OnOk};
+ghost use Rattle.std.specs.Arc.{arc_value};
+ghost use Rattle.ix_car.specs.Gives.{IsFaultOf};
+ghost use Rattle.ix_car.specs.Sections.{SectionMeaning, section_list};
+ghost use Rattle.ix_car.specs.SectionView.{section_of};
+ghost use Rattle.ix_inspect.specs.Counted.{IsTallied, Summarizes, HasTallied};
 
-use crate::repeats::repeats_of;
-use crate::tally::{Tally, tally_of};
-use ix_car::Section;
-use ix_cid::CidRef;
+use crate::repeats::{distinct_in, no_memory};
+use crate::tally::{Tally, count_in};
+use ix_car::{CarFault, Section, read_header, read_section};
 use std::alloc::{AllocError, Global};
+use std::collections::BTreeMap;
+use std::sync::Arc;
 use std::thread::Threads;
 
 /// The summary of a file's sections.
@@ -46,93 +50,77 @@ impl Summary {
     {
         self.sizes.last().copied()
     }
+
+    // Returns the summary of no section.
+    fn empty(alloc: Global) -> Summary
+        ensures { IsTallied [] result }
+    {
+        Summary {
+            sections: 0,
+            repeated: 0,
+            codecs: BTreeMap::new(alloc),
+            hashes: BTreeMap::new(alloc),
+            sizes: Vec::new(alloc),
+        }
+    }
+
+    // Counts one section more, apart from whether its CID occurred before. The sizes stay in the order of the sections.
+    fn add(&mut self, section: &Section<'_>) -> Result<(), AllocError>
+        requires few { (done : List SectionMeaning) × IsTallied done self.old × (length done < 2 ^ 63) }
+        ensures { OnOk result ((done : List SectionMeaning) → IsTallied done self.old
+            → IsTallied (done ++ section_of section.now ∷ []) self.new) }
+    {
+        let parts = section.cid.parts();
+        count_in(&mut self.codecs, parts.codec)?;
+        count_in(&mut self.hashes, parts.hash_code)?;
+        self.sizes.push(section.block.len())?;
+        self.sections += 1;
+        Ok(())
+    }
 }
 
-/// Summarizes sections; so many threads look up their CIDs. Nothing is hashed.
+/// Summarizes the sections of a CARv1 file, or returns its first error, whose offset is counted from the start of that
+/// file. It is the end of shared bytes from an offset on. Nothing is hashed.
 ///
-/// The CIDs are kept without the sections while they are looked up, which takes the most memory.
+/// So many threads look up the CIDs, which takes as much memory as reading the file's blocks. Then the sections are read
+/// once more, one after the other, and of each only its size is kept.
+///
+/// ```rust
+/// let summary = summary_of(rt, alloc, &file, 0, threads)?;
+/// ```
 pub fn summary_of<R: Threads + Sync>(
     rt: &R,
     alloc: Global,
-    sections: Vec<Section<'_>>,
+    file: &Arc<Vec<u8>>,
+    start: usize,
     threads: usize,
-) -> Result<Summary, AllocError>
-    ensures sections { IfOk result (λ s. s.sections ≡ length sections.entry.items) }
-    ensures repeated { IfOk result (λ s. s.repeated ≡ repeats (cids_of sections.entry.items)) }
-    ensures codecs { IfOk result (λ s. IsTallyOf (codecs_of sections.entry.items) s.codecs) }
-    ensures hashes { IfOk result (λ s. IsTallyOf (hash_codes_of sections.entry.items) s.hashes) }
-    ensures sizes { IfOk result (λ s. IsPermutation (sizes_of sections.entry.items) s.sizes.items) }
-    ensures sorted { IfOk result (λ s. IsSorted nat_cmp s.sizes.items) }
+) -> Result<Summary, CarFault>
+    requires { start ≤ length (arc_value file.now).items }
+    ensures { Summarizes (drop start (arc_value file.now).items) result }
 {
-    let count = sections.len();
-    let codecs = codec_tally(alloc, sections.as_slice())?;
-    let hashes = hash_tally(alloc, sections.as_slice())?;
-    let sizes = sizes_of(alloc, sections.as_slice())?;
-    let cids = cids_of(alloc, sections)?;
-    Ok(Summary {
-        sections: count,
-        repeated: repeats_of(rt, alloc, cids.as_slice(), threads)?,
-        codecs,
-        hashes,
-        sizes,
-    })
+    let distinct = distinct_in(rt, alloc, file, start, threads)?;
+    let mut summary = tallied(alloc, &file.as_slice()[start..])?;
+    summary.repeated = summary.sections - distinct;
+    match summary.sizes.sort() {
+        Ok(()) => Ok(summary),
+        Err(_) => Err(no_memory(0)),
+    }
 }
 
-// Counts the sections of each codec.
-fn codec_tally(alloc: Global, sections: &[Section<'_>]) -> Result<Tally, AllocError>
-    ensures { IfOk result (IsTallyOf (codecs_of sections.now)) }
+// Counts the sections of a CARv1 file, apart from whether their CIDs occurred before, or returns its first error.
+fn tallied(alloc: Global, bytes: &[u8]) -> Result<Summary, CarFault>
+    ensures tallied { IfOk result (HasTallied (section_list bytes.now)) }
+    ensures refused { IfErr result (λ fault. IsFaultOf bytes.now fault (section_list bytes.now)) }
 {
-    let codecs = codecs_of(alloc, sections)?;
-    tally_of(alloc, codecs.as_slice())
-}
-
-// Counts the sections of each hash function.
-fn hash_tally(alloc: Global, sections: &[Section<'_>]) -> Result<Tally, AllocError>
-    ensures { IfOk result (IsTallyOf (hash_codes_of sections.now)) }
-{
-    let hashes = hashes_of(alloc, sections)?;
-    tally_of(alloc, hashes.as_slice())
-}
-
-// Returns the CID of each section.
-fn cids_of(alloc: Global, sections: Vec<Section<'_>>) -> Result<Vec<CidRef<'_>>, AllocError>
-    ensures { IfOk result (λ cids. cids.items ≡ cids_of sections.entry.items) }
-{
-    sections
-        .into_iter()
-        .map(|section| section.cid)
-        .collect(alloc)
-}
-
-// Returns the codec of each section.
-fn codecs_of(alloc: Global, sections: &[Section<'_>]) -> Result<Vec<u64>, AllocError>
-    ensures { IfOk result (λ v. v.items ≡ codecs_of sections.now) }
-{
-    sections
-        .iter()
-        .map(|section| section.cid.parts().codec)
-        .collect(alloc)
-}
-
-// Returns the code of each section's hash function.
-fn hashes_of(alloc: Global, sections: &[Section<'_>]) -> Result<Vec<u64>, AllocError>
-    ensures { IfOk result (λ v. v.items ≡ hash_codes_of sections.now) }
-{
-    sections
-        .iter()
-        .map(|section| section.cid.parts().hash_code)
-        .collect(alloc)
-}
-
-// Returns the size of each block, from the smallest to the greatest.
-fn sizes_of(alloc: Global, sections: &[Section<'_>]) -> Result<Vec<usize>, AllocError>
-    ensures sizes { IfOk result (λ v. IsPermutation (sizes_of sections.now) v.items) }
-    ensures sorted { IfOk result (λ v. IsSorted nat_cmp v.items) }
-{
-    let mut sizes: Vec<usize> = sections
-        .iter()
-        .map(|section| section.block.len())
-        .collect(alloc)?;
-    sizes.sort()?;
-    Ok(sizes)
+    let (_, sections) = read_header(alloc, bytes)?;
+    let mut rest = sections;
+    let mut summary = Summary::empty(alloc);
+    while !rest.is_empty() {
+        let (section, after) = read_section(bytes.len(), rest)?;
+        let Ok(()) = summary.add(&section) else {
+            return Err(no_memory(section.place));
+        };
+        rest = after;
+    }
+    Ok(summary)
 }
