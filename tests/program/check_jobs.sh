@@ -62,7 +62,7 @@ upper=B$(tr a-z A-Z <<<"${abc_text#b}")
 write_jobs "a QmYwAPJzv5CZsnA625s3Xf2nemtYgPpHdWEz79ojWKPbdG 1 $matcher" "b F$abc_cid 1 $matcher" "c $upper 1 $matcher" \
   "d ipfs://$abc_text 1 $matcher" "e /ipfs/$abc_text/x 1 $matcher" "f $abc_text,f$abc_cid 1 $matcher" "g ${abc_text%?} 1 $matcher" \
   "h $abc_text,$abc_text, 1 $matcher" "i $(repeated 65 "$abc_text,")$abc_text 1 $matcher" "j k2jmtxw8 1 $matcher" "k mAVUSILp4 1 $matcher" \
-  "l hello 1 $matcher" "m https://ipfs.io/ipfs/$abc_text 1 $matcher"
+  "l hello 1 $matcher" "m https://ipfs.io/ipfs/$abc_text 1 $matcher" "n v0-1220$(digest "$abc") 1 $matcher"
 checked jobs.txt 'jobs: root at line 1' \
   'line 1, ROOT: base58 of a CIDv0, which names UnixFS, expected a CIDv1 in base32 beginning with b' \
   "line 2, ROOT: hex, expected base32 beginning with b: $abc_text" \
@@ -76,7 +76,8 @@ checked jobs.txt 'jobs: root at line 1' \
   'line 10, ROOT: base36, expected base32 beginning with b' \
   'line 11, ROOT: base64, expected base32 beginning with b' \
   'line 12, ROOT: not a CID, expected a CIDv1 in base32, beginning with b' \
-  "line 13, ROOT: a URL, expected the CID alone: $abc_text"
+  "line 13, ROOT: a URL, expected the CID alone: $abc_text" \
+  'line 14, ROOT: hex of a CIDv0, which names UnixFS, expected a CIDv1 in base32 beginning with b'
 
 begin 'check-jobs: all faulty fields of a line, and bytes that are no text'
 write_blocks

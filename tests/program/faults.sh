@@ -218,7 +218,10 @@ verbose 'cannot read blocks.car' 'Is a directory (os error 21)' 'rm blocks.car; 
 verbose 'cannot read jobs.txt' 'No such file or directory (os error 2)' 'rm jobs.txt'
 verbose 'too large blocks.car' 'an input has at most 1073741824 bytes: --max-input allows more' "truncate -s $((greatest + 1)) blocks.car"
 verbose 'blocks: truncated at 0' 'blocks.car: compressed by gzip' 'bytes 1f8b0800 >blocks.car'
-verbose 'jobs: fields at line 1' 'ix_export check-jobs reports what is wrong with each line' 'echo b >jobs.txt'
+advice='ix_export check-jobs reports each faulty line'
+verbose 'jobs: fields at line 1' "jobs.txt: 1 field, expected the four NAME ROOTS LIMIT SELECTOR; $advice" 'echo b >jobs.txt'
+verbose 'jobs: root at line 2' "jobs.txt: hex, expected base32 beginning with b: $abc_text; $advice" 'write_jobs "a $one_job" "b f$abc_cid 1 $matcher"'
+verbose 'jobs: repeated at line 2' "jobs.txt: also in line 1; $advice" 'write_jobs "a $one_job" "a $one_job"'
 verbose 'cannot write out/a.car' 'No such file or directory (os error 2); its directory must exist' 'rmdir out'
 verbose 'cannot write out/a.car' 'it is an input: give another output' 'ln blocks.car out/a.car'
 verbose 'cannot write out/a.car' 'is a directory' 'mkdir out/a.car'
@@ -239,3 +242,11 @@ printf x >input
 run root --cid "$abc_text" --verbose <input
 refused 'input: hex
 odd number of digits, or a character that is not a hex digit'
+
+begin 'root: the form that a CID has instead of base32, and its base32'
+run root --cid "f$abc_cid" --verbose </dev/null
+refused "root: multibase
+--cid: hex, expected base32 beginning with b: $abc_text"
+run root --cid "${abc_text%?}" --verbose </dev/null
+refused "root: base32
+--cid: a CID that ends early"

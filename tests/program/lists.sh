@@ -60,27 +60,38 @@ total jobs=2 done=2 skips=0" ''
 expect_bytes out/a.car "$(header "$one_cid")" "$sound_one"
 expect_bytes out/b.car "$(header "$abc_cid")"
 
-# wrong_list KIND NUMBER: the error of a list, in the forms of `jobs` and `get`, and no output.
-list_advice='a line is a CIDv1 in base32, as ix_export inspect --cids prints it'
+# wrong_list KIND NUMBER [WORDS]: the error of a list, with what is wrong with the line, in the forms of `jobs` and `get`, and no
+# output.
 wrong_list() {
+  local cause=${3:+$3; }'a line is a CIDv1 in base32, as ix_export inspect --cids prints it'
   write_jobs "a $one_job"
   run jobs --blocks blocks.car --jobs jobs.txt --out out --without-list list.txt
   refused "known: $1 at line $2"
   run jobs --blocks blocks.car --jobs jobs.txt --out out --without-list list.txt --verbose
   refused "known: $1 at line $2
-$list_advice"
+$cause"
   run "${get_listed[@]}" --out out/a.car
-  refused "known: $1 at line $2: $list_advice"
+  refused "known: $1 at line $2: $cause"
   expect_folder out
 }
 
+# not_listed LINE WORDS: a line that isn't the base32 of a CIDv1, and what is wrong with it.
+not_listed() {
+  with_list "no CID: $1" "$1"
+  wrong_list cid 1 "$2"
+}
+
+no_base32='not base32: after b come a to z and 2 to 7, in lower case'
 with_list 'a line that is no CID, after lines that are ignored' '' '# two' "$abc_text" 'bafy' "$abc_text,"
-wrong_list cid 4
-for line in "${abc_text^^}" "z${abc_text#b}" "$abc_text $abc_text" "$abc_text," " $abc_text" "$abc_text " "${abc_text}aa" \
-  "v0-1220$(digest "$abc")" "$(text "1220$(digest "$abc")")"; do
-  with_list "no CID: $line" "$line"
-  wrong_list cid 1
-done
+wrong_list cid 4 'a CID that ends early'
+not_listed "${abc_text^^}" "base32 in upper case, expected lower case, beginning with b: $abc_text"
+not_listed "F${abc_cid^^}" "hex, expected base32 beginning with b: $abc_text"
+not_listed "z${abc_text#b}" 'base58, expected base32 beginning with b'
+not_listed "v0-1220$(digest "$abc")" 'hex of a CIDv0, which names UnixFS, expected a CIDv1 in base32 beginning with b'
+not_listed "$(text "1220$(digest "$abc")")" 'a CID of another version than 1'
+not_listed "${abc_text}aa" 'a CID with more after it'
+for line in "$abc_text $abc_text" "$abc_text," "$abc_text "; do not_listed "$line" "$no_base32"; done
+not_listed " $abc_text" 'not a CID, expected a CIDv1 in base32, beginning with b'
 with_list 'a byte that is no text' "$abc_text" $'\t'
 wrong_list text 2
 with_list 'a byte order mark' $'\xef\xbb\xbf'"$abc_text"

@@ -385,7 +385,7 @@ run verify --jobs jobs.txt --part 3/3 out
 expect 0 "out/two.car sound sections=2 bytes=219" ''
 write_jobs "one $(text "$one_cid") 0 $all"
 run verify --jobs jobs.txt out
-refused 'jobs.txt: limit at line 1'
+refused 'jobs.txt: limit at line 1: 0, expected 1 to 4294967295; ix_export check-jobs reports each faulty line'
 for more in '--path a' '--selector {".":{}}' '--blocks-only' "--jobs jobs.txt" another; do
   run verify --jobs jobs.txt out $more
   expect_text "exit status with $more" 2 "$status"

@@ -48,27 +48,42 @@ fn root_words(
     fault: CidFault,
     count: usize,
 ) -> Result<String, AllocError> {
-    if fault == CidFault::Memory {
-        return Err(AllocError);
-    }
-    let words = match form_words(root) {
-        Some(words) => with_base32(alloc, root, words)?,
-        None if fault == CidFault::Base32 => String::from_str(alloc, base32_words(alloc, root)?)?,
-        None => String::from_str(alloc, cid_words(fault))?,
-    };
     if root.is_empty() {
         let words = "no text beside a comma, expected comma-separated CIDs";
-        String::from_str(alloc, words)
-    } else if count == 1 {
+        return String::from_str(alloc, words);
+    }
+    let words = text_words(alloc, root, fault)?;
+    if count == 1 {
         Ok(words)
     } else {
         format!(in alloc; "{root} is {words}")
     }
 }
 
-// Appends the base32 of a root in another form, if it is a CIDv1.
-fn with_base32(alloc: Global, root: &str, words: &str) -> Result<String, AllocError> {
-    match parse(alloc, locate(root).cid) {
+/// Returns what is wrong with a text that is to be a CIDv1 in base32, if anything: the form that it has instead, with its
+/// base32 if it is a CIDv1 all the same.
+pub fn cid_fault_words(alloc: Global, text: &str) -> Result<Option<String>, AllocError> {
+    match Cid::from_text(alloc, text) {
+        Ok(_) => Ok(None),
+        Err(fault) => text_words(alloc, text, fault).map(|words| Some(words)),
+    }
+}
+
+// Returns what is wrong with a text that is no CIDv1 in base32, for this reason.
+fn text_words(alloc: Global, text: &str, fault: CidFault) -> Result<String, AllocError> {
+    if fault == CidFault::Memory {
+        return Err(AllocError);
+    }
+    match form_words(text) {
+        Some(words) => with_base32(alloc, text, words),
+        None if fault == CidFault::Base32 => { String::from_str(alloc, base32_words(alloc, text)?) }
+        None => String::from_str(alloc, cid_words(fault)),
+    }
+}
+
+// Appends the base32 of a text in another form, if it is a CIDv1.
+fn with_base32(alloc: Global, text: &str, words: &str) -> Result<String, AllocError> {
+    match parse(alloc, locate(text).cid) {
         Ok(cid) if cid.version() == 1 => format!(in alloc; "{words}: {}", cid.text(alloc)?),
         Ok(_) => String::from_str(alloc, words),
         Err(CidTextFault::Memory) => Err(AllocError),
@@ -77,22 +92,27 @@ fn with_base32(alloc: Global, root: &str, words: &str) -> Result<String, AllocEr
 }
 
 // Returns the form that a text has instead of base32, if it is recognized.
-fn form_words(root: &str) -> Option<&'static str> {
-    if root.starts_with("ipfs://") {
+fn form_words(text: &str) -> Option<&'static str> {
+    if text.starts_with("ipfs://") {
         return Some("an ipfs:// address, expected the CID alone");
     }
-    if root.starts_with("/ipfs/") {
+    if text.starts_with("/ipfs/") {
         return Some("a path of /ipfs/, expected the CID alone");
     }
-    if root.starts_with("http://") || root.starts_with("https://") {
+    if text.starts_with("http://") || text.starts_with("https://") {
         return Some("a URL, expected the CID alone");
     }
-    if root.starts_with("Qm") {
+    if text.starts_with("Qm") {
         return Some(
             "base58 of a CIDv0, which names UnixFS, expected a CIDv1 in base32 beginning with b",
         );
     }
-    match root.as_bytes().split_first()? {
+    if text.starts_with("v0-") {
+        return Some(
+            "hex of a CIDv0, which names UnixFS, expected a CIDv1 in base32 beginning with b",
+        );
+    }
+    match text.as_bytes().split_first()? {
         (b'f' | b'F', digits) if !digits.iter().all(|digit| digit.is_ascii_hexdigit()) => None,
         (first, _) => base_words(*first),
     }
