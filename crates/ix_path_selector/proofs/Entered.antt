@@ -14,12 +14,12 @@ use Rattle.ix_path_selector.specs.Entered.{IsBeforeEnd, IsEnteredFromEnd, IsOn, 
 use Rattle.ix_path_selector.proofs.OwnPlace.{end_entered, kept_at_end}
 
 -- a field selects its key alone
-fields_step : {k : List ℕ} {s : Pattern} {t : Step} {place : Path} → Enters (fields (field k s no_fields)) [] (t ∷ place) → (t ≡ key k) × Enters s [] place
+pub fields_step : {k : List ℕ} {s : Pattern} {t : Step} {place : Path} → Enters (fields (field k s no_fields)) [] (t ∷ place) → (t ≡ key k) × Enters s [] place
 fields_step (below_fields first h) = (refl, h)
 fields_step (below_fields (later named) h) = elim named [ ]
 
 -- an index selects its position alone
-index_step : {n : ℕ} {s : Pattern} {t : Step} {place : Path} → Enters (index (pos n) s) [] (t ∷ place) → (t ≡ nth n) × Enters s [] place
+pub index_step : {n : ℕ} {s : Pattern} {t : Step} {place : Path} → Enters (index (pos n) s) [] (t ∷ place) → (t ≡ nth n) × Enters s [] place
 index_step (below_index h) = (refl, h)
 
 -- what is entered after the first step

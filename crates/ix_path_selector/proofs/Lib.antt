@@ -5,3 +5,5 @@ pub mod Along
 pub mod Nodes
 pub mod Ends
 pub mod EmptyUnion
+pub mod OneOf
+pub mod BySegments

@@ -5,3 +5,4 @@ pub mod End
 pub mod Entered
 pub mod Made
 pub mod Steps
+pub mod Segments

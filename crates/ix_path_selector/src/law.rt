@@ -1,6 +1,7 @@
 //! Laws of the definitions.
 
 ghost use Rattle.ix_path_selector.specs.Entered.{EntersAlong, EntersThePath, EntersAllBelow, EntersItsEnd, KeepsWhatEnters};
+ghost use Rattle.ix_path_selector.specs.Segments.{EntersOneOf};
 
 /// States which places the selector along a path enters, link or no link between: each place on
 /// the path before its end, and from the end on what the selector there enters, and no other. So
@@ -15,4 +16,11 @@ pub fn along_a_path()
     ensures below { EntersAllBelow }
     ensures end { EntersItsEnd }
     ensures kept { KeepsWhatEnters }
+{}
+
+/// States which places the selector along segments enters that aren't resolved: exactly those that the
+/// selector along one of the paths enters that the segments may be, in which each is a key, or where it is a
+/// number an index.
+pub fn along_segments()
+    ensures { EntersOneOf }
 {}

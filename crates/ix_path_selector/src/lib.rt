@@ -13,6 +13,7 @@ mod fault;
 pub mod law;
 mod node;
 mod nothing;
+mod segments;
 mod selector;
 mod steps;
 #[cfg(test)]
@@ -20,5 +21,6 @@ mod tests;
 
 pub use end::PathEnd;
 pub use fault::PathSelectorFault;
+pub use segments::selector_by_segments;
 pub use selector::selector_along;
 pub use steps::steps_along;
