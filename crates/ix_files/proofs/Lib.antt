@@ -1,0 +1,2 @@
+pub mod ReadFiles
+pub mod BaseFiles
