@@ -57,6 +57,17 @@ pub record NamesLarge (path : List ℕ) (failure : Failure) : Type 0 where
 abbrev pub IsTooLarge : List ℕ → Failure → Type 0
 IsTooLarge path failure = (failure ≡ Fault Memory) ⊎ NamesLarge path failure
 
+-- memory ran out
+abbrev pub IsNoMemory : Failure → Type 0
+IsNoMemory (Fault Memory) = Unit {0}
+IsNoMemory (OutOfMemory cause) = Unit {0}
+IsNoMemory other = ⊥
+
+-- the same failure, which says at what it was if memory ran out
+abbrev pub IsAt : Failure → Failure → Type 0
+IsAt (Fault Memory) at = IsNoMemory at
+IsAt failure at = at ≡ failure
+
 -- an input at this path can't be read or is too large, or memory ran out
 abbrev pub IsInputFailure : List ℕ → Failure → Type 0
 IsInputFailure path failure = Names CannotRead path failure ⊎ IsTooLarge path failure
@@ -116,7 +127,7 @@ IsLineOf (Words argument) line = line ≡ codes "error: an argument is not UTF-8
 IsLineOf (Fault fault) line = line ≡ run_lines.line_of fault
 IsLineOf (Explained fault name cause) line = line ≡ run_lines.line_of fault
 IsLineOf (InFile fault name cause) line = line ≡ run_lines.line_of fault ++ (codes " in " ++ string_bytes name)
-IsLineOf (Known fault) line = line ≡ list_lines.line_of fault
+IsLineOf (Known fault cause) line = line ≡ list_lines.line_of fault
 IsLineOf (Selector fault) line = line ≡ selector_lines.line_of fault
 IsLineOf (CannotRead name cause) line = line ≡ codes "cannot read " ++ string_bytes name
 IsLineOf (TooLarge name cause) line = line ≡ codes "too large " ++ string_bytes name

@@ -2,13 +2,14 @@
 
 ghost use Rattle.std.specs.Prelude.{◌≡◌, IsNone, IfOk, IfSome, string_bytes};
 ghost use Rattle.ix_cli_io.specs.declared.fault.Failure.TheVariants.{CannotRead, TooLarge, CannotWrite};
-ghost use Rattle.ix_cli_io.specs.Failure.{IsWordsOf, IsTooLarge, NamesFile, WantsMemory, IsLineOf, status_of};
+ghost use Rattle.ix_cli_io.specs.Failure.{IsWordsOf, IsTooLarge, NamesFile, WantsMemory, IsAt, IsLineOf, status_of};
 
 use crate::memory::available_memory;
 use crate::stop::{ErrorCode, Stop};
 use clap::error::ErrorKind as UsageKind;
 use ix_car::{CarFault, CarKind};
 use ix_have_list::{ListErrorKind, ListFault};
+use ix_jobs::JobsFault;
 use ix_run::{RunFault, fault_line};
 use ix_selector_json::NotationFault;
 use std::alloc::{AllocError, AllocFailed, Global};
@@ -35,12 +36,13 @@ pub enum Failure {
     Words(String),
     /// An error of the library, or memory that ran out.
     Fault(RunFault),
-    /// An error in the only block file: the error, the file's path, and what is known of the cause.
+    /// An error in the only input that can have it, or in an option: the error, the input's path or the option's name, and
+    /// what is known of the cause.
     Explained(RunFault, String, String),
     /// An error in one of several block files: the error, the file's path, and what is known of the cause.
     InFile(RunFault, String, String),
-    /// A have-list that is rejected.
-    Known(ListFault),
+    /// A have-list that is rejected: the error, and what is known of the cause.
+    Known(ListFault, Option<String>),
     /// A text that is not a selector.
     Selector(NotationFault),
     /// An input can't be read: its path, `-` for standard input, and the cause.
@@ -116,7 +118,9 @@ impl Failure {
     }
 
     /// Says of a failure, if it is that memory ran out, at what it did, how much is available, and what helps.
-    pub fn at<R: AllocGlobal + Files>(self, rt: &R, stage: &str) -> Failure {
+    pub fn at<R: AllocGlobal + Files>(self, rt: &R, stage: &str) -> Failure
+        ensures { IsAt self result }
+    {
         if !matches!(&self, Failure::Fault(RunFault::Memory)) {
             return self;
         }
@@ -141,7 +145,7 @@ impl Failure {
             Failure::Fault(fault)
             | Failure::Explained(fault, _, _)
             | Failure::InFile(fault, _, _) => { Some(code_of(fault)) }
-            Failure::Known(fault) => Some(match fault.kind {
+            Failure::Known(fault, _) => Some(match fault.kind {
                 ListErrorKind::Memory => ErrorCode::Memory,
                 _ => ErrorCode::HaveList,
             }),
@@ -219,7 +223,7 @@ impl Failure {
                 let line = fault_line(alloc, fault)?;
                 format!(in alloc; "{line} in {path}")
             }
-            Failure::Known(fault) => ix_have_list::fault_line(alloc, fault),
+            Failure::Known(fault, _) => ix_have_list::fault_line(alloc, fault),
             Failure::Selector(fault) => ix_selector_json::fault_line(alloc, fault),
             Failure::CannotRead(path, _) => format!(in alloc; "cannot read {path}"),
             Failure::TooLarge(path, _) => format!(in alloc; "too large {path}"),
@@ -239,11 +243,14 @@ impl Failure {
             Failure::TooLarge(_, cause)
             | Failure::OutOfMemory(cause)
             | Failure::Explained(_, _, cause)
-            | Failure::InFile(_, _, cause) => Ok(Some(cause.clone()?)),
+            | Failure::InFile(_, _, cause)
+            | Failure::Known(_, Some(cause)) => Ok(Some(cause.clone()?)),
             Failure::Fault(fault) => cause_of_fault(alloc, fault),
-            Failure::Known(fault) => cause_of_list(alloc, fault),
-            Failure::Usage(_) | Failure::Words(_) | Failure::Selector(_) | Failure::Stopped(_) =>
-                Ok(None),
+            Failure::Usage(_)
+            | Failure::Words(_)
+            | Failure::Known(_, None)
+            | Failure::Selector(_)
+            | Failure::Stopped(_) => Ok(None),
         }
     }
 }
@@ -277,6 +284,9 @@ fn line_of_file(
         RunFault::Car(CarFault { kind, place }) => {
             format!(in alloc; "{path}: {kind} at {place}: {cause}")
         }
+        RunFault::Jobs(JobsFault { kind, line }) => {
+            format!(in alloc; "{path}: {kind} at line {line}: {cause}")
+        }
         fault => {
             let line = fault_line(alloc, fault)?;
             format!(in alloc; "{path}: {line}: {cause}")
@@ -307,15 +317,6 @@ fn cause_of_fault(alloc: Global, fault: &RunFault) -> Result<Option<String>, All
         RunFault::Jobs(_) => "ix_export check-jobs reports what is wrong with each line",
         RunFault::Write(_) => "its header could not be written: is the disk full?",
         _ => return Ok(None),
-    };
-    Ok(Some(String::from_str(alloc, cause)?))
-}
-
-// Returns what to do about an error of a have-list, if its line doesn't say it.
-fn cause_of_list(alloc: Global, fault: &ListFault) -> Result<Option<String>, AllocError> {
-    let cause = match fault.kind {
-        ListErrorKind::Memory => return Ok(None),
-        _ => "a line is a CIDv1 in base32, as ix_export inspect --cids prints it",
     };
     Ok(Some(String::from_str(alloc, cause)?))
 }
@@ -363,17 +364,6 @@ impl From<RunFault> for Failure {
 
     fn from(fault: RunFault) -> Failure {
         Failure::Fault(fault)
-    }
-}
-
-impl From<ListFault> for Failure {
-    ghost use Rattle.std.specs.Prelude.{◌≡◌};
-    ghost use Rattle.ix_cli_io.specs.declared.fault.Failure.TheVariants.{Known};
-
-    ghost from_gives = { λ fault failure. failure ≡ Known fault };
-
-    fn from(fault: ListFault) -> Failure {
-        Failure::Known(fault)
     }
 }
 

@@ -1,6 +1,7 @@
 //! How much memory there is.
 
-ghost use Rattle.std.specs.Prelude.{◌<◌};
+ghost use Rattle.std.specs.Prelude.{◌<◌, IfErr};
+ghost use Rattle.ix_cli_io.specs.Failure.{IsTooLarge};
 
 use crate::fault::Failure;
 use crate::files::STANDARD_INPUT;
@@ -46,7 +47,9 @@ pub fn check_memory<R: AllocGlobal + Files>(rt: &R, paths: &[&str]) -> Result<()
 
 /// Rejects the file at a path if so many bytes for the index of its blocks, and of those of the files before, are more
 /// than memory is available.
-pub fn check_index<R: AllocGlobal + Files>(rt: &R, path: &str, index: u64) -> Result<(), Failure> {
+pub fn check_index<R: AllocGlobal + Files>(rt: &R, path: &str, index: u64) -> Result<(), Failure>
+    ensures { IfErr result (IsTooLarge path.now) }
+{
     match available_memory(rt) {
         Some(free) if free < index => {
             let cause = format!(in rt.alloc();
