@@ -1,22 +1,26 @@
 //! The block files of a command: which they are, and the store of their blocks.
 
-ghost use Rattle.std.specs.Prelude.{IfOk};
-ghost use Rattle.ix_car.specs.Payload.{IsWithin};
+ghost use Rattle.std.specs.Prelude.{◌≡◌, IfOk, IfErr, None};
+ghost use Rattle.std.specs.Arc.{arc_value};
+ghost use Rattle.ix_files.specs.Files.{IsStoreOf};
+ghost use Rattle.ix_files.specs.Known.{IsKnownIn};
+ghost use Rattle.ix_files.specs.declared.loader.Copies.TheVariants.{First};
+ghost use Rattle.ix_load.specs.Refusals.{NamesCarFault, NamesFault, NamesFirst, NamesNone, paths_in};
 
 use clap::ArgMatches;
 use clap::error::ErrorKind;
-use ix_base::Base;
-use ix_car::{BlockLoader, CarFault, Payload, SoundLoader, payload_of, read_header};
+use ix_car::{CarFault, payload_of, read_header};
 use ix_cid::{Cid, read_varint};
 use ix_cli_io::{
     Failure, Progress, STANDARD_INPUT, check_index, check_memory, load_input, size_of_all,
 };
+use ix_files::{Copies, FileBlocks, FileFault, Reading, blocks_of, known_of};
 use ix_inspect::{Kind, kind_of};
 use ix_options::{
     ArgSpec, BLOCKS, CommandSpec, PREFER_SOUND, WITHOUT, cause_of, later_note, print_notes,
 };
 use ix_run::RunFault;
-use ix_store::{PlaceSet, SoundStore, Store};
+use ix_store::{PlaceSet, Store};
 use std::alloc::{AllocError, Global};
 use std::fs::File;
 use std::rt::{Clock, Files};
@@ -29,10 +33,7 @@ pub struct BlockFiles<'a> {
     paths: Vec<&'a str>,
     // How many bytes each may have.
     most: u64,
-    // Whether a CARv2 file is read, and not rejected.
-    reads_carv2: bool,
-    // Whether of the copies of a block the first that is sound counts.
-    prefers_sound: bool,
+    reading: Reading,
     // Whether they are what a receiver has, and not the blocks that are exported.
     is_base: bool,
 }
@@ -98,60 +99,6 @@ impl LoadedBlocks {
     }
 }
 
-// What reads the files: of the copies of a block the first counts, or the first that is sound.
-#[derive(Drop)]
-enum Loader {
-    First(BlockLoader),
-    Sound(SoundLoader),
-}
-
-impl Loader {
-    // Reads one file more.
-    fn with_file<R: AllocGlobal + Threads + Sync>(
-        self,
-        rt: &R,
-        bytes: Vec<u8>,
-        payload: Payload,
-        threads: usize,
-    ) -> Result<Loader, CarFault>
-        requires { IsWithin payload bytes.items }
-    {
-        let alloc = rt.alloc();
-        match self {
-            Loader::First(loader) => {
-                let loader = loader.with_file_by(rt, alloc, bytes, payload, threads)?;
-                Ok(Loader::First(loader))
-            }
-            Loader::Sound(loader) => {
-                let loader = loader.with_file(alloc, bytes, payload)?;
-                Ok(Loader::Sound(loader))
-            }
-        }
-    }
-
-    // Returns the settled store of all files, which have so many bytes.
-    fn finish<R: AllocGlobal + Threads + Sync>(
-        self,
-        rt: &R,
-        size: usize,
-        threads: usize,
-    ) -> Result<LoadedBlocks, AllocError> {
-        let (store, later_count) = match self {
-            Loader::First(loader) => (loader.finish_by(rt, threads)?, 0),
-            Loader::Sound(loader) => {
-                let SoundStore { store, later_count } = loader.finish_by(rt, threads)?;
-                (store, later_count)
-            }
-        };
-        Ok(LoadedBlocks {
-            store: Arc::new(rt.alloc(), store)?,
-            known: None,
-            size,
-            later_count,
-        })
-    }
-}
-
 impl<'a> BlockFiles<'a> {
     /// Reads the paths of the blocks that a command exports. Standard input can be given once.
     pub fn given(
@@ -164,8 +111,14 @@ impl<'a> BlockFiles<'a> {
         Ok(BlockFiles {
             paths: paths_of(alloc, spec, words, &BLOCKS)?,
             most,
-            reads_carv2,
-            prefers_sound: PREFER_SOUND.is_given(words),
+            reading: Reading {
+                carv2: reads_carv2,
+                copies: if PREFER_SOUND.is_given(words) {
+                    Copies::Sound
+                } else {
+                    Copies::First
+                },
+            },
             is_base: false,
         })
     }
@@ -182,8 +135,10 @@ impl<'a> BlockFiles<'a> {
         let files = BlockFiles {
             paths: paths_of(alloc, spec, words, option)?,
             most,
-            reads_carv2: true,
-            prefers_sound: false,
+            reading: Reading {
+                carv2: true,
+                copies: Copies::First,
+            },
             is_base: true,
         };
         if files.has_standard_input() {
@@ -202,8 +157,10 @@ impl<'a> BlockFiles<'a> {
         Ok(BlockFiles {
             paths: paths_of(alloc, spec, words, &WITHOUT)?,
             most: self.most,
-            reads_carv2: self.reads_carv2,
-            prefers_sound: false,
+            reading: Reading {
+                carv2: self.reading.carv2,
+                copies: Copies::First,
+            },
             is_base: true,
         })
     }
@@ -266,34 +223,36 @@ impl<'a> BlockFiles<'a> {
         };
         match roots_in(alloc, bytes.as_slice()) {
             Ok(roots) => Ok(roots),
-            Err(fault) => Err(self.refusal(alloc, path, fault, kind_of(bytes.as_slice()))),
+            Err(fault) => Err(self.failure(alloc, path, fault, kind_of(bytes.as_slice()))),
         }
     }
 
-    /// Makes the store of the blocks of the files that were read: those of their sections in order, the
-    /// first of each CID, or the first that is sound if that is asked for.
+    /// Makes the store of the blocks of the files that were read: of their sections, put end to end, the
+    /// first of each CID, or the first that is sound if that is asked for. A file that is rejected is named with its error, the first.
     pub fn store_of<R: AllocGlobal + Files + Threads + Sync>(
         &self,
         rt: &R,
         files: Vec<Vec<u8>>,
         threads: usize,
         indexed: Indexed,
-    ) -> Result<LoadedBlocks, Failure> {
+    ) -> Result<LoadedBlocks, Failure>
+        ensures store { IfOk result (λ blocks.
+            IsStoreOf self.now.reading files.items (arc_value blocks.store) blocks.later_count) }
+        ensures alone { IfOk result (λ blocks. blocks.known ≡ None) }
+        ensures refused { IfErr result
+            (NamesFirst (paths_in self.now.paths) self.now.reading files.items) }
+    {
         self.check_index(rt, files.as_slice(), indexed)?;
-        let alloc = rt.alloc();
-        let mut loader = self.new_loader(alloc);
-        let mut size: usize = 0;
-        for (path, bytes) in self.paths.iter().zip(files) {
-            size = size.saturating_add(bytes.len());
-            let kind = kind_of(bytes.as_slice());
-            match self.with_file(rt, loader, bytes, threads) {
-                Ok(more) => loader = more,
-                Err(fault) => return Err(self.refusal(alloc, path, fault, kind)),
-            }
-        }
-        match loader.finish(rt, size, threads) {
-            Ok(blocks) => Ok(blocks),
-            Err(error) => Err(Failure::from(error).at(rt, INDEX)),
+        let size = size_of(files.as_slice());
+        let kinds = kinds_of(rt.alloc(), files.as_slice())?;
+        match blocks_of(rt, rt.alloc(), files, self.reading, threads) {
+            Ok(FileBlocks { store, later_count }) => Ok(LoadedBlocks {
+                store,
+                known: None,
+                size,
+                later_count,
+            }),
+            Err(fault) => Err(self.refusal(rt, fault, kinds.as_slice())),
         }
     }
 
@@ -304,7 +263,9 @@ impl<'a> BlockFiles<'a> {
         rt: &R,
         files: &[Vec<u8>],
         indexed: Indexed,
-    ) -> Result<(), Failure> {
+    ) -> Result<(), Failure>
+        ensures { IfErr result NamesNone }
+    {
         let mut most: u64 = 0;
         let mut count: u64 = 0;
         for (path, bytes) in self.paths.iter().zip(files) {
@@ -319,78 +280,41 @@ impl<'a> BlockFiles<'a> {
         Ok(())
     }
 
-    // Creates the loader that is asked for.
-    fn new_loader(&self, alloc: Global) -> Loader {
-        if self.prefers_sound {
-            Loader::Sound(SoundLoader::new(alloc))
-        } else {
-            Loader::First(BlockLoader::new(alloc))
-        }
-    }
-
-    // Reads one file more. Of a CARv2 file it is the payload.
-    fn with_file<R: AllocGlobal + Threads + Sync>(
-        &self,
-        rt: &R,
-        loader: Loader,
-        bytes: Vec<u8>,
-        threads: usize,
-    ) -> Result<Loader, CarFault> {
-        let payload = self.payload_in(bytes.as_slice())?;
-        loader.with_file(rt, bytes, payload, threads)
-    }
-
     /// Returns the positions in a store of the blocks whose first copy, over the files that were read, is sound.
     /// The memory of a file is freed once its sections were looked up.
-    pub(crate) fn known_in<R: AllocGlobal + Threads + Sync>(
+    pub(crate) fn known_in<R: AllocGlobal + Files + Threads + Sync>(
         &self,
         rt: &R,
         store: &Store,
         files: Vec<Vec<u8>>,
         threads: usize,
-    ) -> Result<PlaceSet, Failure> {
-        let alloc = rt.alloc();
-        let mut base = Base::new(alloc, store);
-        for (path, bytes) in self.paths.iter().zip(files) {
-            match self.with_base_file(rt, base, bytes.as_slice(), threads) {
-                Ok(more) => base = more,
-                Err(fault) => {
-                    return Err(self.refusal(alloc, path, fault, kind_of(bytes.as_slice())));
-                }
-            }
-        }
-        Ok(base.into_known())
-    }
-
-    // Reads one file more of a base. Of a CARv2 file it is the payload.
-    fn with_base_file<'b, R: AllocGlobal + Threads + Sync>(
-        &self,
-        rt: &R,
-        base: Base<'b>,
-        bytes: &[u8],
-        threads: usize,
-    ) -> Result<Base<'b>, CarFault> {
-        let payload = self.payload_in(bytes)?;
-        base.with_file(rt, rt.alloc(), bytes, payload, threads)
-    }
-
-    // Returns where the CARv1 file in a file begins and ends: the whole, if CARv2 isn't read.
-    fn payload_in(&self, bytes: &[u8]) -> Result<Payload, CarFault>
-        ensures { IfOk result (λ payload. IsWithin payload bytes.now) }
+    ) -> Result<PlaceSet, Failure>
+        ensures known { IfOk result (IsKnownIn self.now.reading.carv2 store.now files.items) }
+        ensures refused { IfErr result (NamesFirst (paths_in self.now.paths)
+            (record { carv2 = self.now.reading.carv2; copies = First }) files.items) }
     {
-        if self.reads_carv2 {
-            payload_of(bytes)
-        } else {
-            Ok(Payload {
-                start: 0,
-                end: bytes.len(),
-            })
+        let kinds = kinds_of(rt.alloc(), files.as_slice())?;
+        match known_of(rt, rt.alloc(), store, files, self.reading.carv2, threads) {
+            Ok(known) => Ok(known),
+            Err(fault) => Err(self.refusal(rt, fault, kinds.as_slice())),
+        }
+    }
+
+    // Returns the failure for the first file that is rejected, of files of these kinds.
+    fn refusal<R: AllocGlobal + Files>(&self, rt: &R, fault: FileFault, kinds: &[Kind]) -> Failure
+        ensures { NamesFault (paths_in self.now.paths) fault result }
+    {
+        match (self.paths.get(fault.file), kinds.get(fault.file)) {
+            (Some(path), Some(kind)) => self.failure(rt.alloc(), path, fault.fault, *kind),
+            _ => Failure::Fault(RunFault::Memory).at(rt, INDEX),
         }
     }
 
     // Returns the failure for a file with an error. Its line names the file if there are several, or if it is
     // what the receiver has.
-    fn refusal(&self, alloc: Global, path: &str, fault: CarFault, kind: Kind) -> Failure {
+    fn failure(&self, alloc: Global, path: &str, fault: CarFault, kind: Kind) -> Failure
+        ensures { NamesCarFault path.now fault result }
+    {
         let cause = cause_of(&fault, kind).unwrap_or(OUT_OF_MEMORY);
         let is_named = self.is_base || self.paths.len() > 1;
         match explained(alloc, fault, path, cause, is_named) {
@@ -400,6 +324,23 @@ impl<'a> BlockFiles<'a> {
     }
 }
 
+// Returns how many bytes files have together.
+fn size_of(files: &[Vec<u8>]) -> usize {
+    let mut size: usize = 0;
+    for bytes in files {
+        size = size.saturating_add(bytes.len());
+    }
+    size
+}
+
+// Returns what files are by their first bytes.
+fn kinds_of(alloc: Global, files: &[Vec<u8>]) -> Result<Vec<Kind>, AllocError> {
+    files
+        .iter()
+        .map(|bytes| kind_of(bytes.as_slice()))
+        .collect(alloc)
+}
+
 // Adds to an error the file in which it is, whether or not its line names that, and the cause.
 fn explained(
     alloc: Global,
@@ -407,7 +348,9 @@ fn explained(
     path: &str,
     cause: &str,
     is_named: bool,
-) -> Result<Failure, AllocError> {
+) -> Result<Failure, AllocError>
+    ensures { IfOk result (NamesCarFault path.now fault) }
+{
     let path = String::from_str(alloc, path)?;
     let cause = String::from_str(alloc, cause)?;
     let fault = RunFault::from(fault);

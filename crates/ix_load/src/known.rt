@@ -1,12 +1,15 @@
 //! What a receiver has: files of its blocks, and a list of CIDs.
 
+ghost use Rattle.std.specs.Prelude.{OnOk};
+ghost use Rattle.ix_load.specs.Receiver.{AddsFiles, AddsList, AddsSomeList, AddsKnown};
+
 use crate::blocks::{BlockFiles, LoadedBlocks};
+use crate::rejected::list_failure;
 use clap::ArgMatches;
 use clap::error::ErrorKind;
 use ix_cli_io::{Failure, Progress, STANDARD_INPUT, read_input, size_of_all};
-use ix_have_list::{insert_listed, listed_cids};
+use ix_files::with_listed;
 use ix_options::{BLOCKS, CommandSpec, WITHOUT, WITHOUT_LIST};
-use ix_store::PlaceSet;
 use std::alloc::{AllocError, Global};
 use std::fs::File;
 use std::rt::{Clock, Files};
@@ -114,15 +117,33 @@ impl<'a> KnownInputs<'a> {
     ) -> Result<(), Failure>
     where
         R: AllocGlobal + Files + Input + Threads + Sync,
+        ensures { OnOk result (AddsKnown self.now.files.reading.carv2 self.now.list files.items
+            blocks.old blocks.new) }
     {
-        if !files.is_empty() {
-            let known = self.files.known_in(rt, &blocks.store, files, threads)?;
-            blocks.known = Some(known);
-        }
+        self.add_files(rt, blocks, files, threads)?;
         match self.list {
             Some(path) => self.add_listed(rt, path, blocks),
             None => Ok(()),
         }
+    }
+
+    // Makes known which blocks these files of the receiver have, if there are files.
+    fn add_files<R: AllocGlobal + Files + Threads + Sync>(
+        &self,
+        rt: &R,
+        blocks: &mut LoadedBlocks,
+        files: Vec<Vec<u8>>,
+        threads: usize,
+    ) -> Result<(), Failure>
+        ensures { OnOk result (AddsFiles self.now.files.reading.carv2 files.items
+            blocks.old blocks.new) }
+    {
+        if files.is_empty() {
+            return Ok(());
+        }
+        let known = self.files.known_in(rt, &blocks.store, files, threads)?;
+        blocks.known = Some(known);
+        Ok(())
     }
 
     // Adds to the known blocks those whose CID is in the list at this path.
@@ -131,16 +152,24 @@ impl<'a> KnownInputs<'a> {
         rt: &R,
         path: &str,
         blocks: &mut LoadedBlocks,
-    ) -> Result<(), Failure> {
+    ) -> Result<(), Failure>
+        ensures { OnOk result (AddsSomeList blocks.old blocks.new) }
+    {
         let list = read_input(rt, path, self.most)?;
-        let cids = listed_cids(rt.alloc(), list.as_slice())?;
-        let mut known = match blocks.known.take() {
-            Some(known) => known,
-            None => PlaceSet::new(rt.alloc()),
-        };
-        insert_listed(&mut known, &blocks.store, cids.as_slice())?;
-        blocks.known = Some(known);
-        Ok(())
+        add_list(rt.alloc(), list.as_slice(), blocks)
+    }
+}
+
+// Adds to the known blocks those whose CID is in a list.
+fn add_list(alloc: Global, list: &[u8], blocks: &mut LoadedBlocks) -> Result<(), Failure>
+    ensures { OnOk result (AddsList list.now blocks.old blocks.new) }
+{
+    match with_listed(alloc, blocks.known.take(), &blocks.store, list) {
+        Ok(known) => {
+            blocks.known = Some(known);
+            Ok(())
+        }
+        Err(fault) => Err(list_failure(alloc, list, fault)),
     }
 }
 

@@ -17,8 +17,8 @@ mod known;
 mod part;
 mod paths;
 mod prefetching;
+mod rejected;
 mod roots;
-mod segments;
 mod threads;
 
 pub use blocks::{BlockFiles, Indexed, LoadedBlocks};
@@ -28,6 +28,7 @@ pub use known::{KnownInputs, refused_inputs};
 pub use part::{PART, given_part};
 pub use paths::{RootPaths, Unresolved, obstacle_stop, path_of, path_text};
 pub use prefetching::Prefetching;
+pub use rejected::job_file_failure;
 pub use roots::{
     RootWords, Roots, SCOPE, SELECTOR, SELECTOR_HEX, SOME_ROOT, Scope, at_root, clones, no_jobs,
     no_roots, refused_roots, roots_note, roots_text, some_root,

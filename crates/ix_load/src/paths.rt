@@ -2,7 +2,6 @@
 
 use crate::cause::{code_of_verdict, verdict_line};
 use crate::roots::MATCHER;
-use crate::segments::selector_by_segments;
 use clap::error::ErrorKind;
 use hex::FromHexError;
 use ix_cbor::{CborKind, Front, Tree, decode, read_front, read_key, skip_item};
@@ -13,7 +12,9 @@ use ix_options::CommandSpec;
 use ix_path::{
     NodeBytes, Obstacle, PathError, PathNode, PathStep, Resolution, RootPath, index_of, resolve,
 };
-use ix_path_selector::{PathEnd, PathSelectorFault, selector_along, steps_along};
+use ix_path_selector::{
+    PathEnd, PathSelectorFault, selector_along, selector_by_segments, steps_along,
+};
 use ix_selector_json::{NotationFault, fault_line};
 use ix_store::Store;
 use ix_verdict::Verdict;

@@ -1,8 +1,10 @@
 //! How many threads a command has.
 
-ghost use Rattle.std.specs.Prelude.{◌≤◌};
+ghost use Rattle.std.specs.Prelude.{◌≤◌, IfOk, IfErr};
 ghost use Rattle.std.specs.Arc.{arc_value};
-ghost use Rattle.ix_run.specs.Run.{CanRun};
+ghost use Rattle.ix_archive.specs.Archive.{known_at};
+ghost use Rattle.ix_run.specs.Run.{CanRun, IsRunRefusal};
+ghost use Rattle.ix_load.specs.Ran.{HasReported};
 
 use crate::blocks::LoadedBlocks;
 use crate::prefetching::Prefetching;
@@ -136,7 +138,8 @@ impl ThreadCounts {
         at_most_processors(rt, self.walkers as usize + self.verifiers as usize)
     }
 
-    /// Runs the jobs with so many threads, and shows progress if it is asked for.
+    /// Runs the jobs over these blocks with so many threads, and shows progress if it is asked for. The sections of the
+    /// blocks that the receiver has are left out.
     pub fn run<R: AllocGlobal + Clock + Eprint + Threads + Wait + Sync, W: Write + Drop>(
         &self,
         rt: &R,
@@ -146,6 +149,10 @@ impl ThreadCounts {
         progress: &Progress<R>,
     ) -> Result<RunReport, RunFault>
         requires { CanRun (arc_value jobs.now).items writers.items }
+        ensures ran { IfOk result (HasReported W.contents
+            (known_at (arc_value blocks.now.store) blocks.now.known)
+            (arc_value blocks.now.store) (arc_value jobs.now).items writers.items) }
+        ensures refused { IfErr result (λ fault. IsRunRefusal (arc_value jobs.now).items fault) }
     {
         let ran = if progress.is_shown() {
             progress.begin(jobs.len());
@@ -197,6 +204,10 @@ impl ThreadCounts {
         observer: &V,
     ) -> Result<RunReport, RunFault>
         requires { CanRun (arc_value jobs.now).items writers.items }
+        ensures ran { IfOk result (HasReported W.contents
+            (known_at (arc_value blocks.now.store) blocks.now.known)
+            (arc_value blocks.now.store) (arc_value jobs.now).items writers.items) }
+        ensures refused { IfErr result (λ fault. IsRunRefusal (arc_value jobs.now).items fault) }
     {
         let input = RunInput {
             store: &blocks.store,
