@@ -16,7 +16,7 @@ use ix_cli_io::{
 use ix_jobs::AllowMissing;
 use ix_load::{
     BlockFiles, Indexed, KnownInputs, LoadedBlocks, PART, Prefetching, RunOutputs, RunReport,
-    ThreadCounts, allowed_missing, forget_store, given_part, refused_inputs,
+    ThreadCounts, allowed_missing, forget_store, given_part, job_file_failure, refused_inputs,
 };
 use ix_options::{
     ALLOW_MISSING, ArgKind, ArgSpec, BLOCKS, CARV2, CommandSpec, Host, JSON, MAX_INPUT_1G,
@@ -318,7 +318,7 @@ impl<'a> JobsCommand<'a> {
         let job_file = read_input(rt, self.job_file, self.most)?;
         let base_files = self.known.read(rt, &self.blocks, loaders, progress);
         let mut blocks = self.blocks.store_of(rt, files, loaders, Indexed::Alone)?;
-        let jobs = load_jobs(rt.alloc(), job_file.as_slice(), self.choice)?;
+        let jobs = self.jobs_of(rt.alloc(), job_file.as_slice())?;
         self.known.add_to(rt, &mut blocks, base_files?, loaders)?;
         let (jobs, left_out) = if self.is_resumed {
             without_archived(rt, self.folder, jobs)
@@ -330,6 +330,20 @@ impl<'a> JobsCommand<'a> {
             jobs: Arc::new(rt.alloc(), jobs)?,
             left_out,
         })
+    }
+
+    // Returns the chosen jobs of the job file with these bytes.
+    fn jobs_of(&self, alloc: Global, job_file: &[u8]) -> Result<Vec<Job>, Failure>
+        ensures { IfOk result (λ jobs. AreFew jobs.items) }
+    {
+        match load_jobs(alloc, job_file, self.choice) {
+            Ok(jobs) => Ok(jobs),
+            Err(RunFault::Jobs(fault)) => {
+                let greatest = self.choice.greatest_limit;
+                Err(job_file_failure(alloc, self.job_file, job_file, fault, greatest))
+            }
+            Err(fault) => Err(Failure::from(fault)),
+        }
     }
 
     // Returns the paths of all inputs.

@@ -5,9 +5,9 @@ use crate::verify_spec::{FILES, JOBS, PATH, SPEC, WITH};
 use clap::ArgMatches;
 use clap::error::ErrorKind as UsageKind;
 use ix_car::read_header;
-use ix_cli_io::{ErrorCode, Failure, STANDARD_INPUT, read_input};
+use ix_cli_io::{Failure, STANDARD_INPUT, read_input};
 use ix_jobs::Part;
-use ix_load::{PART, SCOPE, given_part};
+use ix_load::{PART, SCOPE, given_part, job_file_failure};
 use ix_run::{JobChoice, RunFault, load_jobs};
 use ix_walk::Job;
 use std::alloc::{AllocError, Global};
@@ -88,9 +88,7 @@ impl<'a> JobArchives<'a> {
         match load_jobs(alloc, file, choice) {
             Ok(jobs) => Ok(jobs),
             Err(RunFault::Jobs(fault)) => {
-                let (path, kind, line) = (self.job_file, fault.kind, fault.line);
-                let text = format!(in alloc; "{path}: {kind} at line {line}");
-                Err(Failure::stopped(ErrorCode::Jobs, text))
+                Err(job_file_failure(alloc, self.job_file, file, fault, u32::MAX))
             }
             Err(fault) => Err(Failure::from(fault)),
         }
