@@ -4,7 +4,7 @@ ghost use Rattle.std.specs.Prelude.{◌≤◌, IfOk, IfErr};
 ghost use Rattle.std.specs.Arc.{arc_value};
 ghost use Rattle.ix_archive.specs.Archive.{known_at};
 ghost use Rattle.ix_run.specs.Run.{CanRun, IsRunRefusal};
-ghost use Rattle.ix_load.specs.Ran.{HasReported};
+ghost use Rattle.ix_load.specs.Ran.{HasReported, HasReportedToFiles};
 
 use crate::blocks::LoadedBlocks;
 use crate::prefetching::Prefetching;
@@ -177,6 +177,9 @@ impl ThreadCounts {
         progress: &Progress<R>,
     ) -> Result<RunReport, RunFault>
         requires { CanRun (arc_value jobs.now).items archives.outputs.now }
+        ensures { IfOk result (HasReportedToFiles
+            (known_at (arc_value blocks.now.store) blocks.now.known)
+            (arc_value blocks.now.store) (arc_value jobs.now).items) }
     {
         let alloc = rt.alloc();
         let buffers = buffers_of(alloc, archives.outputs, archives.errors)?;
