@@ -22,7 +22,8 @@ pub fn job_file_failure(
     }
     match job_file_cause(alloc, path, bytes, fault, greatest) {
         Ok((path, cause)) => Failure::Explained(RunFault::Jobs(fault), path, cause),
-        Err(error) => Failure::from(error),
+        // If memory runs out for the cause, the error is reported without it.
+        Err(_) => Failure::Fault(RunFault::Jobs(fault)),
     }
 }
 
@@ -46,7 +47,7 @@ fn job_file_cause(
 pub(crate) fn list_failure(alloc: Global, bytes: &[u8], fault: ListFault) -> Failure {
     match list_cause(alloc, bytes, fault) {
         Ok(cause) => Failure::Known(fault, cause),
-        Err(error) => Failure::from(error),
+        Err(_) => Failure::Known(fault, None),
     }
 }
 
