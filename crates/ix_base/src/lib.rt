@@ -16,7 +16,5 @@ mod base;
 mod batch;
 mod finding;
 mod places;
-#[cfg(test)]
-mod tests;
 
 pub use base::Base;

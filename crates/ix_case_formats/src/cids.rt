@@ -171,3 +171,17 @@ pub fn cid_of_text(alloc: Global, input: &str) -> Result<String> {
         Err(fault) => fault.to_string(alloc).map_err(Error::from),
     }
 }
+
+/// `any_text TEXT = TEXT` in base32, or of a CIDv0 as reports print it, or the error
+pub fn cid_of_any_text(alloc: Global, input: &str) -> Result<String> {
+    match ix_cid_text::parse(alloc, input) {
+        Ok(cid) => cid.text(alloc).map_err(Error::from),
+        Err(fault) => fault.to_string(alloc).map_err(Error::from),
+    }
+}
+
+/// `locate TEXT = CID PATH END`
+pub fn located(alloc: Global, input: &str) -> Result<String> {
+    let place = ix_cid_text::locate(input);
+    format!(in alloc; "{} {} {}", place.cid, place.path, place.end).map_err(Error::from)
+}

@@ -17,8 +17,8 @@ pub fn selector_of(alloc: Global, text: &str) -> Result<Selector> {
     }
 }
 
-// The tree of a block in hex, or of a node in diagnostic notation.
-fn tree_of(alloc: Global, text: &str) -> Result<Tree> {
+/// The tree of a block in hex, or of a node in diagnostic notation.
+pub fn tree_of(alloc: Global, text: &str) -> Result<Tree> {
     if text.starts_with('{') || text.starts_with('[') {
         return match Tree::new(node_of(alloc, text)?) {
             Ok(tree) => Ok(tree),

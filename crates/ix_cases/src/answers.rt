@@ -1,7 +1,7 @@
 //! The words of cases, and the call of each.
 
 use crate::example::Example;
-use crate::{jobs, runs, stores, walks};
+use crate::{jobs, paths, receiving, runs, stores, walks};
 use anyhow::{Result, bail};
 use ix_case_formats::{cids, selectors, trees};
 use std::alloc::Global;
@@ -24,6 +24,8 @@ pub fn answer<R: Threads + Wait + Sync>(
         "cids" => cids::compared_cids(alloc, input),
         "text" => cids::text(alloc, input),
         "from_text" => cids::cid_of_text(alloc, input),
+        "any_text" => cids::cid_of_any_text(alloc, input),
+        "locate" => cids::located(alloc, input),
         "decode" => trees::decode(alloc, input),
         "tree" => trees::tree(alloc, input),
         "head" => trees::head(alloc, input),
@@ -31,11 +33,16 @@ pub fn answer<R: Threads + Wait + Sync>(
         "step" => selectors::steps(alloc, input),
         "notation" => selectors::notation(alloc, input),
         "notation_of" => selectors::notation_of(alloc, input),
+        "path" => paths::path(alloc, input),
+        "along" => paths::along(alloc, input),
         "new_job" => walks::new_job(alloc, input),
         "jobs" => jobs::jobs(alloc, input),
         "prepare" => jobs::prepared(alloc, input),
         "root" => jobs::root(alloc, input),
         "print" => jobs::printed(alloc, input),
+        "check_archive" => receiving::archive(alloc, input),
+        "stream" => receiving::stream(alloc, input),
+        "known" => receiving::known(rt, alloc, &example.store, input),
         "run" => runs::runs(rt, alloc, example),
         "tell" => runs::told(alloc, example),
         _ => answer_of_store(alloc, example, word, input),
@@ -59,8 +66,11 @@ fn answer_of_store(
         "settle" => stores::settle(alloc, &mut example.store),
         "found" => stores::found_of_block(alloc, &example.store, input),
         "walk" => walks::walk(alloc, &example.store, input),
+        "walk_once" => walks::walk_once(alloc, &example.store, input),
         "visits" => walks::visits(alloc, &example.store, input),
         "verdict" => walks::verdict(alloc, &example.store, input),
+        "lead" => paths::lead(alloc, &example.store, input),
+        "receive" => receiving::receive(alloc, &example.store, input),
         _ => bail!("no such word: {word}"),
     }
 }

@@ -14,6 +14,8 @@ mod answers;
 mod bench;
 mod example;
 mod jobs;
+mod paths;
+mod receiving;
 mod runs;
 mod stores;
 mod tally;

@@ -102,8 +102,8 @@ fn car_bytes(alloc: Global, example: &Example, input: &str) -> Result<Vec<u8>> {
     }
 }
 
-// `KIND at PLACE`
-fn text_of_fault(alloc: Global, fault: CarFault) -> Result<String> {
+/// `KIND at PLACE`
+pub fn text_of_fault(alloc: Global, fault: CarFault) -> Result<String> {
     let kind = fault.kind;
     let place = fault.place;
     format!(in alloc; "{kind} at {place}").map_err(Error::from)

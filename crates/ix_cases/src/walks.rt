@@ -7,6 +7,7 @@ use ix_case_formats::cids::{cids_of, hex_of_cids};
 use ix_case_formats::selectors::selector_of;
 use ix_case_formats::texts::two_words;
 use ix_check::{Check, ShaCheck, Verdict};
+use ix_lists::ListWalk;
 use ix_store::Store;
 use ix_walk::{Job, JobFault, Visit, Walk, WalkStop};
 use std::alloc::{AllocError, Global};
@@ -25,8 +26,8 @@ pub fn job_of(alloc: Global, name: &str, roots: &str, limit: &str, selector: &st
     }
 }
 
-// The job of `ROOTS LIMIT SELECTOR`.
-fn job_of_words(alloc: Global, input: &str) -> Result<Job> {
+/// The job of `ROOTS LIMIT SELECTOR`.
+pub fn job_of_words(alloc: Global, input: &str) -> Result<Job> {
     let (roots, rest) = two_words(input)?;
     let (limit, selector) = two_words(rest)?;
     job_of(alloc, "a", roots, limit, selector)
@@ -73,10 +74,36 @@ pub fn walk(alloc: Global, store: &Store, input: &str) -> Result<String> {
     }
 }
 
-// The same of a job and its number.
+/// `walk_once` as `walk`, where each link is visited once
+pub fn walk_once(alloc: Global, store: &Store, input: &str) -> Result<String> {
+    let (number, rest) = two_words(input)?;
+    match job_of_words(alloc, rest) {
+        Ok(job) => text_of_numbered(alloc, store, &job.links_once(), number),
+        Err(error) => Err(error),
+    }
+}
+
+// The same of a job and its number, which a walk by lists has to give too.
 fn text_of_numbered(alloc: Global, store: &Store, job: &Job, number: &str) -> Result<String> {
-    let mut walk = Walk::new(alloc, store, job, number.parse::<u32>()?)?;
-    text_of_walk(alloc, store, &mut walk)
+    let number = number.parse::<u32>()?;
+    let mut walk = Walk::new(alloc, store, job, number)?;
+    let answer = text_of_walk(alloc, store, &mut walk)?;
+    let listed = text_of_list_walk(alloc, store, ListWalk::new(alloc, store, job, number)?)?;
+    ensure!(listed == answer, "a walk by lists has {listed}");
+    Ok(answer)
+}
+
+// The visits of a walk by lists, and the stop after them.
+fn text_of_list_walk(
+    alloc: Global,
+    store: &Store,
+    walk: ListWalk<'_>,
+) -> Result<String, AllocError> {
+    let mut answer = String::new(alloc);
+    for item in walk {
+        push_item(&mut answer, store, &item)?;
+    }
+    answer.as_str().trim_end().to_string(alloc)
 }
 
 // The visits of a walk, and the stop after them.

@@ -16,8 +16,6 @@ mod bits;
 mod fault;
 mod location;
 mod number;
-#[cfg(test)]
-mod tests;
 mod text;
 
 pub use base::Base;

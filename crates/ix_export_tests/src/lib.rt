@@ -1,6 +1,6 @@
 //! Tests of exports, to sinks, by checks and through gates of a test's own; of runs, by a check and
-//! to writers of a test's own; of exports whose threads can't all be started; and of the lines of
-//! errors.
+//! to writers of a test's own; of exports whose threads can't all be started; of the lines of
+//! errors; of archives of which each byte is changed; and of the paths of visits.
 //!
 //! It has no public call and no contract: its tests are its results. An export in a test looks like this:
 //!
@@ -19,11 +19,15 @@ mod archives;
 #[cfg(test)]
 mod crowd;
 #[cfg(test)]
+mod example;
+#[cfg(test)]
 mod exporting;
 #[cfg(test)]
 mod input;
 #[cfg(test)]
 mod layers;
+#[cfg(test)]
+mod own_archives;
 #[cfg(test)]
 mod refusals;
 #[cfg(test)]
@@ -32,6 +36,8 @@ mod runs;
 mod sinks;
 #[cfg(test)]
 mod starts;
+#[cfg(test)]
+mod traces;
 #[cfg(test)]
 mod waiting;
 #[cfg(test)]

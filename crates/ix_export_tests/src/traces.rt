@@ -1,11 +1,11 @@
 //! The paths of visits of a worked graph, their text, and a report with them.
 
-use crate::{path_text, trace, with_paths};
 use ix_cbor::decode;
 use ix_cid::Cid;
 use ix_path::{GREATEST_SEGMENTS, RootPath};
 use ix_selector::Selector;
 use ix_store::Store;
+use ix_trace::{path_text, trace, with_paths};
 use ix_walk::Job;
 use std::alloc::Global;
 use std::test::Fail;

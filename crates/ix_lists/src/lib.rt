@@ -17,8 +17,6 @@
 
 mod expansion;
 mod list_walk;
-#[cfg(test)]
-mod tests;
 
 pub use expansion::expand;
 pub use list_walk::ListWalk;

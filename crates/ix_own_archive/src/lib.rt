@@ -34,10 +34,6 @@ mod stream_bytes;
 mod stream_fault;
 mod stream_parts;
 mod stream_request;
-#[cfg(test)]
-mod stream_tests;
-#[cfg(test)]
-mod tests;
 
 pub use check::check_archive;
 pub use fault::{ArchiveFault, ArchiveReason};

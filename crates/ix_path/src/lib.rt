@@ -25,8 +25,6 @@ mod path;
 mod percent;
 mod resolution;
 mod step;
-#[cfg(test)]
-mod tests;
 
 pub use child::index_of;
 pub use error::PathError;

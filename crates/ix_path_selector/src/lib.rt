@@ -16,8 +16,6 @@ mod nothing;
 mod segments;
 mod selector;
 mod steps;
-#[cfg(test)]
-mod tests;
 
 pub use end::PathEnd;
 pub use fault::PathSelectorFault;

@@ -28,8 +28,6 @@ mod reading;
 mod state;
 mod stop;
 mod table_walk;
-#[cfg(test)]
-mod tests;
 mod visiting;
 
 pub use expansions::Expansions;

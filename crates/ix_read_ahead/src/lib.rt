@@ -18,8 +18,6 @@
 #![tactic(auto)]
 
 mod read_ahead;
-#[cfg(test)]
-mod tests;
 mod waiting;
 
 pub use read_ahead::ReadAhead;

@@ -34,8 +34,6 @@ mod receiver;
 mod request;
 mod section;
 mod sections;
-#[cfg(test)]
-mod tests;
 mod traversal;
 
 pub use allow_missing::AllowMissing;

@@ -1,5 +1,5 @@
 //! Tests of the ring, lanes, claims, the visit queue, the collector and archives, call by call and
-//! among threads.
+//! among threads; of what is prefetched, and of an input that is read ahead.
 //!
 //! It has no public call and no contract: its tests are its results. A test looks like this:
 //!
@@ -21,6 +21,10 @@ mod collector;
 #[cfg(test)]
 mod lanes;
 #[cfg(test)]
+mod prefetching;
+#[cfg(test)]
 mod queue;
+#[cfg(test)]
+mod read_ahead;
 #[cfg(test)]
 mod ring;

@@ -1,8 +1,8 @@
 //! What `prefetch` makes of worked graphs, and walks over it beside walks.
 
-use crate::{Expansions, TableWalk, prefetch};
 use ix_cbor::decode;
 use ix_cid::Cid;
+use ix_prefetch::{Expansions, TableWalk, prefetch};
 use ix_selector::Selector;
 use ix_store::Store;
 use ix_walk::{Job, Visit, Walk, WalkStop};
@@ -161,27 +161,7 @@ fn walked(alloc: Global, store: &Store, job: &Job) -> Result<String, AllocError>
     Ok(text)
 }
 
-// The bounds of the lists that a table has for the residual with a number, by the places of their blocks,
-// with `!` if nothing below the block is visited once.
-fn lists(
-    alloc: Global,
-    table: &Expansions<'_>,
-    residual: u16,
-    blocks: usize,
-) -> Result<String, AllocError> {
-    let mut text = String::new(alloc);
-    for place in 0..blocks {
-        match table.pair(0, place, residual) {
-            Some(pair) if pair.barren => write!(text, "{}..{}! ", pair.from, pair.to)?,
-            Some(pair) => write!(text, "{}..{} ", pair.from, pair.to)?,
-            None => write!(text, "- ")?,
-        }
-    }
-    Ok(text)
-}
-
-// The lists of the table of a job for the residual of a root and for the next, the visits over it, and
-// whether a walk has the same.
+// How many expansions the table of a job has, the visits over it, and whether a walk has the same.
 fn prefetched<R: Threads + Sync>(
     rt: &R,
     alloc: Global,
@@ -190,23 +170,21 @@ fn prefetched<R: Threads + Sync>(
 ) -> Result<String, AllocError> {
     match prefetch(rt, alloc, store, job, 4, ANY_BYTES) {
         Some(table) => {
-            let whole = lists(alloc, &table, 0, store.len())?;
-            let other = lists(alloc, &table, 1, store.len())?;
+            let count = table.len();
             let visits = tabled(alloc, &table)?;
             let same = visits == walked(alloc, store, job)?;
-            format!(in alloc; "{whole}/ {other}/ {visits}{same}")
+            format!(in alloc; "{count} / {visits}{same}")
         }
         None => String::from_str(alloc, "none"),
     }
 }
 
-// How often a text has a byte.
-fn count_of(text: &String, byte: u8) -> usize {
-    text.as_bytes().iter().filter(|b| **b == byte).count()
+fn spaces(text: &str) -> usize {
+    text.as_bytes().iter().filter(|b| **b == b' ').count()
 }
 
-// How many lists the table of a job has for the residual of a root, how many items a walk over it
-// returns, and whether a walk has the same.
+// How many expansions the table of a job has, how many items a walk over it returns, and whether a walk
+// has the same.
 fn counted<R: Threads + Sync>(
     rt: &R,
     alloc: Global,
@@ -216,12 +194,11 @@ fn counted<R: Threads + Sync>(
 ) -> Result<String, AllocError> {
     match prefetch(rt, alloc, store, job, 4, most_bytes) {
         Some(table) => {
-            let lists = lists(alloc, &table, 0, store.len())?;
-            let lists = count_of(&lists, b'.') / 2;
+            let count = table.len();
             let visits = tabled(alloc, &table)?;
-            let items = count_of(&visits, b' ');
+            let items = spaces(visits.as_str());
             let same = visits == walked(alloc, store, job)?;
-            format!(in alloc; "{lists} {items} {same}")
+            format!(in alloc; "{count} {items} {same}")
         }
         None => String::from_str(alloc, "none"),
     }
@@ -251,16 +228,10 @@ fn a_tree(rt: HostRuntime) -> Result<(), Fail> {
     let store = tree_of(alloc, NODE_BLOCK)?;
     let job = job_of(alloc, ALL, cid_of(alloc, TREE)?, 10)?;
     let every = prefetched(&rt, alloc, &store, &job)?;
-    assert_eq!(rt;
-        every.as_str(),
-        "0..4 4..5 - / - - - / 0.0 1.1 2.2 1.1 2.2 1.2 1.- true"
-    );
+    assert_eq!(rt; every.as_str(), "2 / 0.0 1.1 2.2 1.1 2.2 1.2 1.- true");
     let job = job.links_once();
     let once = prefetched(&rt, alloc, &store, &job)?;
-    assert_eq!(rt;
-        once.as_str(),
-        "0..4 4..5 - / - - - / 0.0 1.1 2.2 1.1 1.2 1.- true"
-    );
+    assert_eq!(rt; once.as_str(), "2 / 0.0 1.1 2.2 1.1 1.2 1.- true");
     Ok(())
 }
 
@@ -270,36 +241,24 @@ fn a_tree_with_a_damaged_block(rt: HostRuntime) -> Result<(), Fail> {
     let store = tree_of(alloc, OTHER_BLOCK)?;
     let job = job_of(alloc, ALL, cid_of(alloc, TREE)?, 10)?;
     let every = prefetched(&rt, alloc, &store, &job)?;
-    assert_eq!(rt;
-        every.as_str(),
-        "0..4 4..5 - / - - - / 0.0 1.1 2.- 1.1 2.- 1.2 1.- true"
-    );
+    assert_eq!(rt; every.as_str(), "2 / 0.0 1.1 2.- 1.1 2.- 1.2 1.- true");
     let job = job.links_once();
     let once = prefetched(&rt, alloc, &store, &job)?;
-    assert_eq!(rt;
-        once.as_str(),
-        "0..4 4..4! - / - - - / 0.0 1.1 1.1 1.2 1.- true"
-    );
+    assert_eq!(rt; once.as_str(), "2 / 0.0 1.1 1.1 1.2 1.- true");
     Ok(())
 }
 
-// Each step leaves another residual, so only the root has a list for that of a root.
+// Each step leaves another residual.
 #[test]
 fn a_tree_with_several_residuals(rt: HostRuntime) -> Result<(), Fail> {
     let alloc = rt.alloc();
     let store = tree_of(alloc, NODE_BLOCK)?;
     let job = job_of(alloc, NEAR, cid_of(alloc, TREE)?, 10)?;
     let every = prefetched(&rt, alloc, &store, &job)?;
-    assert_eq!(rt;
-        every.as_str(),
-        "0..4 - - / - 4..5 - / 0.0 1.1 2.2 1.1 2.2 1.2 1.- true"
-    );
+    assert_eq!(rt; every.as_str(), "2 / 0.0 1.1 2.2 1.1 2.2 1.2 1.- true");
     let job = job.links_once();
     let once = prefetched(&rt, alloc, &store, &job)?;
-    assert_eq!(rt;
-        once.as_str(),
-        "0..4 - - / - 4..5 - / 0.0 1.1 2.2 1.1 1.2 1.- true"
-    );
+    assert_eq!(rt; once.as_str(), "2 / 0.0 1.1 2.2 1.1 1.2 1.- true");
     Ok(())
 }
 
@@ -309,14 +268,14 @@ fn where_it_ends(rt: HostRuntime) -> Result<(), Fail> {
     let (mut store, root) = star(alloc, (Store::new(alloc), absent(alloc, 0)?))?;
     store.enable_memo()?;
     let graph = (store, root);
-    // All of it: the lists of the middle level in three shares.
+    // All of it: the expansions of the middle level in three shares.
     let all = counts(&rt, alloc, &graph, 1000, ANY_BYTES)?;
     assert_eq!(rt; all.as_str(), "132 521 true / 132 392 true");
     // The root and its links take 2,360 bytes, which leaves 578 for each share. A share begins with 256 and
     // takes 72 for a list, so it has more than that after five.
     let first = counts(&rt, alloc, &graph, 1000, 4096)?;
     assert_eq!(rt; first.as_str(), "16 521 true / 16 392 true");
-    // No room for a list is no lack of memory.
+    // No room for an expansion is no lack of memory.
     let none = counts(&rt, alloc, &graph, 1000, 0)?;
     assert_eq!(rt; none.as_str(), "0 521 true / 0 392 true");
     let limited = counts(&rt, alloc, &graph, 100, ANY_BYTES)?;

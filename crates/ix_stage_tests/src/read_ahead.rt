@@ -1,6 +1,6 @@
-//! What is taken of an input, by a reader that is made up.
+//! What is taken of an input that is read ahead, by a reader that is made up.
 
-use crate::read_ahead::ReadAhead;
+use ix_read_ahead::ReadAhead;
 use std::io::{self, ErrorKind, Read};
 use std::rt::Clock;
 use std::sync::Arc;

@@ -17,8 +17,6 @@ mod expansion;
 mod item;
 mod report;
 mod segments;
-#[cfg(test)]
-mod tests;
 mod text;
 mod tracer;
 mod visits;
