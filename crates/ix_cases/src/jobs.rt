@@ -4,8 +4,7 @@ use anyhow::{Error, Result};
 use ix_case_formats::cids::{cid_of, text_of_cids};
 use ix_case_formats::texts::{bytes_of_hex, escaped, hex_of, two_words, unescaped};
 use ix_jobs::{JobsFault, read_jobs};
-use ix_root::{export_root, printed_root, root_of_text};
-use ix_run::{RunFault, fault_line, prepare};
+use ix_run::{RunFault, export_root, fault_line, prepare, printed_root, root_of_text};
 use ix_walk::Job;
 use std::alloc::{AllocError, Global};
 

@@ -3,8 +3,10 @@
 use anyhow::{Error, Result, bail};
 use ix_case_formats::selectors::tree_of;
 use ix_case_formats::texts::{hex_of, two_words};
-use ix_path::{End, MOST_SEGMENTS, NodeBytes, Obstacle, PathStep, Resolution, RootPath, resolve};
-use ix_path_selector::{PathEnd, selector_along, steps_along};
+use ix_path::{
+    End, MOST_SEGMENTS, NodeBytes, Obstacle, PathEnd, PathStep, Resolution, RootPath, resolve,
+    selector_along, steps_along,
+};
 use ix_store::Store;
 use std::alloc::{AllocError, Global};
 

@@ -10,7 +10,7 @@ use Rattle.clap.specs.declared.error.Error.{Error}
 use Rattle.clap.specs.declared.error.kind.ErrorKind.TheVariants.{OutOfMemory, DisplayHelp, DisplayVersion}
 use Rattle.ix_walk.specs.JobMeaning.{JobMeaning}
 use Rattle.ix_run.specs.FaultLine as run_lines
-use Rattle.ix_have_list.specs.FaultLine as list_lines
+use Rattle.ix_jobs.specs.ListFaultLine as list_lines
 use Rattle.ix_selector_json.specs.FaultWords as selector_lines
 use Rattle.ix_cli_io.specs.declared.fault.Failure.{Failure}
 use Rattle.ix_cli_io.specs.declared.fault.Failure.TheVariants.{Usage, Words, Fault, Explained, InFile, Known, Selector, CannotRead, TooLarge, CannotWrite, OutOfMemory, Stopped}

@@ -8,8 +8,7 @@ use crate::memory::available_memory;
 use crate::stop::{ErrorCode, Stop};
 use clap::error::ErrorKind as UsageKind;
 use ix_car::{CarFault, CarKind};
-use ix_have_list::{ListErrorKind, ListFault};
-use ix_jobs::JobsFault;
+use ix_jobs::{JobsFault, ListErrorKind, ListFault};
 use ix_run::{RunFault, fault_line};
 use ix_selector_json::NotationFault;
 use std::alloc::{AllocError, AllocFailed, Global};
@@ -223,7 +222,7 @@ impl Failure {
                 let line = fault_line(alloc, fault)?;
                 format!(in alloc; "{line} in {path}")
             }
-            Failure::Known(fault, _) => ix_have_list::fault_line(alloc, fault),
+            Failure::Known(fault, _) => ix_jobs::list_fault_line(alloc, fault),
             Failure::Selector(fault) => ix_selector_json::fault_line(alloc, fault),
             Failure::CannotRead(path, _) => format!(in alloc; "cannot read {path}"),
             Failure::TooLarge(path, _) => format!(in alloc; "too large {path}"),

@@ -6,8 +6,7 @@ use ix_job_errors::cid_fault_words;
 use ix_options::{
     ArgKind, ArgSpec, CommandSpec, MAX_INPUT_1G, QUIET_ACCEPTED, VERBOSE, most_input, print_answer,
 };
-use ix_root::{printed_root, root_of_text};
-use ix_run::RunFault;
+use ix_run::{RunFault, printed_root, root_of_text};
 use std::alloc::Global;
 
 const ABOUT: &str = "Export the archive of one block, from hex to hex";

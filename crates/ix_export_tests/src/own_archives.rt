@@ -2,6 +2,7 @@
 
 use ix_cbor::decode;
 use ix_cid::Cid;
+use ix_fixtures::bytes_of;
 use ix_own_archive::{
     AllowMissing, ArchiveReason, ExpectedHeader, ReceiveFault, StreamLimits, StreamReceiver,
     check_archive,
@@ -14,13 +15,16 @@ use std::test::Fail;
 // A list of a link to the raw block `abc`.
 const NODE: &str = "0171122021e288dd95d20c03227dc4c449b3a8885fcb420f614135142435f3b33b428832";
 
-// The archive of that list: the header, of 59 bytes, and the sections of the list and of `abc`, of 79 and 40.
-const ARCHIVE: &str = "3aa265726f6f747381d82a582500\
+// The archive of that list: the header, of 59 bytes, and the sections of the list, of 79, and of `abc`.
+const HEADER: &str = "3aa265726f6f747381d82a582500\
 0171122021e288dd95d20c03227dc4c449b3a8885fcb420f614135142435f3b33b428832\
-6776657273696f6e01\
-4e0171122021e288dd95d20c03227dc4c449b3a8885fcb420f614135142435f3b33b428832\
-81d82a58250001551220ba7816bf8f01cfea414140de5dae2223b00361a396177a9cb410ff61f20015ad\
-2701551220ba7816bf8f01cfea414140de5dae2223b00361a396177a9cb410ff61f20015ad616263";
+6776657273696f6e01";
+
+const LIST: &str = "4e0171122021e288dd95d20c03227dc4c449b3a8885fcb420f614135142435f3b33b428832\
+81d82a58250001551220ba7816bf8f01cfea414140de5dae2223b00361a396177a9cb410ff61f20015ad";
+
+const LEAF: &str =
+    "2701551220ba7816bf8f01cfea414140de5dae2223b00361a396177a9cb410ff61f20015ad616263";
 
 // Where the section of `abc` begins.
 const LEAF_AT: usize = 138;
@@ -54,7 +58,7 @@ fn job(alloc: Global) -> Result<Job, Fail> {
 fn a_byte_changed(rt: HostRuntime) -> Result<(), Fail> {
     let alloc = rt.alloc();
     let job = job(alloc)?;
-    let mut bytes = hex::decode(alloc, ARCHIVE)?;
+    let mut bytes = bytes_of(alloc, &[HEADER, LIST, LEAF])?;
     let whole = check_archive(alloc, bytes.as_slice(), &job, AllowMissing::all());
     assert!(rt; whole.is_ok());
     for place in 0..bytes.len() {
@@ -73,7 +77,7 @@ fn a_byte_changed(rt: HostRuntime) -> Result<(), Fail> {
 fn an_archive_cut_off(rt: HostRuntime) -> Result<(), Fail> {
     let alloc = rt.alloc();
     let job = job(alloc)?;
-    let bytes = hex::decode(alloc, ARCHIVE)?;
+    let bytes = bytes_of(alloc, &[HEADER, LIST, LEAF])?;
     for length in 0..bytes.len() {
         let checked = check_archive(alloc, &bytes[..length], &job, AllowMissing::none());
         assert!(rt; checked.is_err(), "after {length}");
@@ -83,11 +87,7 @@ fn an_archive_cut_off(rt: HostRuntime) -> Result<(), Fail> {
 
 // The archive with its first section in place of its second.
 fn section_twice(alloc: Global) -> Result<Vec<u8>, Fail> {
-    let mut bytes = hex::decode(alloc, ARCHIVE)?;
-    bytes.truncate(LEAF_AT);
-    let whole = hex::decode(alloc, ARCHIVE)?;
-    bytes.extend_from_slice(&whole[59..LEAF_AT])?;
-    Ok(bytes)
+    bytes_of(alloc, &[HEADER, LIST, LIST])
 }
 
 // The fault has the CID of the section that is refused.

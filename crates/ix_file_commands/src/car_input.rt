@@ -2,10 +2,9 @@
 
 use ix_car::{CarFault, payload_of};
 use ix_cli_io::{Failure, Progress, Stop, load_input};
-use ix_inspect::{Kind, kind_of};
 use ix_options::cause_of;
 use ix_run::RunFault;
-use ix_verify::CarBytes;
+use ix_verify::{CarBytes, Kind, kind_of};
 use std::alloc::{AllocError, Global};
 use std::fs::File;
 use std::rt::{Clock, Files};

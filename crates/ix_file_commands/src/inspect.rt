@@ -9,12 +9,12 @@ use ix_car::{
 };
 use ix_cid::{Cid, HashFunction};
 use ix_cli_io::{ANY_SIZE, ErrorCode, Failure, STANDARD_INPUT, read_input};
-use ix_inspect::{Kind, Summary, codec_name, hash_name, kind_of, summary_of};
 use ix_options::{
     ArgKind, ArgSpec, CARV2, CARV2_HEADER, CommandSpec, JSON, MAX_INPUT, QUIET,
     available_processors, is_of_carv2, most_input, words_of,
 };
 use ix_run::RunFault;
+use ix_verify::{Kind, Summary, codec_name, hash_name, kind_of, summary_of};
 use std::alloc::{AllocError, Global};
 use std::fmt::Write as FmtWrite;
 use std::io::{self, BufWriter, ErrorKind, Write};

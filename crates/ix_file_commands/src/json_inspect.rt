@@ -3,8 +3,8 @@
 use crate::json_line::{begin_object, end_object, push_boolean, push_count};
 use ix_car::{CarFault, Section};
 use ix_cid::Cid;
-use ix_inspect::{Summary, codec_name, hash_name};
 use ix_json_report::{push_cid, push_text};
+use ix_verify::{Summary, codec_name, hash_name};
 use json::Writer;
 use std::alloc::{AllocError, Global};
 

@@ -7,7 +7,7 @@ use clap::error::ErrorKind as UsageKind;
 use ix_cid::Cid;
 use ix_cli_io::{Failure, Stop};
 use ix_job_errors::job_fault_words;
-use ix_job_line::{JobWords, SelectorWord, jobs_of_words, selector_hex};
+use ix_jobs::{JobWords, SelectorWord, jobs_of_words, selector_hex};
 use ix_load::{
     RootPaths, SCOPE, SELECTOR, SELECTOR_HEX, SOME_ROOT, Scope, Unresolved, refused_roots,
     some_root,

@@ -6,10 +6,10 @@ use Rattle.ix_store.specs.declared.places.PlaceSet.{PlaceSet}
 use Rattle.ix_store.specs.PlaceSet.{contains_place}
 use Rattle.ix_archive.specs.KnownPlaces as bases
 use Rattle.ix_base.specs.Base.{BaseMeaning, IsOfBase}
-use Rattle.ix_have_list.specs.declared.fault.ListFault.{ListFault}
-use Rattle.ix_have_list.specs.Gives.{IsFaultOf}
-use Rattle.ix_have_list.specs.HaveList.{cids_of}
-use Rattle.ix_have_list.specs.Places.{is_listed_at}
+use Rattle.ix_jobs.specs.declared.list_fault.ListFault.{ListFault}
+use Rattle.ix_jobs.specs.GivesList.{IsFaultOf}
+use Rattle.ix_jobs.specs.HaveList.{cids_of}
+use Rattle.ix_jobs.specs.Places.{is_listed_at}
 use Rattle.ix_files.specs.declared.loader.Copies.TheVariants.{First}
 use Rattle.ix_files.specs.Files.{read_of, with_file}
 

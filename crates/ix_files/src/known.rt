@@ -9,7 +9,7 @@ use crate::fault::FileFault;
 use crate::payload::payload_in;
 use ix_base::Base;
 use ix_car::CarFault;
-use ix_have_list::{ListErrorKind, ListFault, insert_listed, listed_cids};
+use ix_jobs::{ListErrorKind, ListFault, insert_listed, listed_cids};
 use ix_store::{PlaceSet, Store};
 use std::alloc::Global;
 use std::thread::Threads;

@@ -9,7 +9,7 @@ use ix_cli_io::{
     read_all,
 };
 use ix_job_errors::line_fault_words;
-use ix_job_line::{JobWords, SelectorWord, job_line_up_to, jobs_of_words, selector_hex};
+use ix_jobs::{JobWords, SelectorWord, job_line_up_to, jobs_of_words, selector_hex};
 use ix_load::{
     BlockFiles, Indexed, LoadedBlocks, RootPaths, Roots, SCOPE, Scope, Unresolved, forget_store,
     roots_text,

@@ -52,7 +52,3 @@ AreFaultsUpTo greatest b = AreFaultsFor (jobs_up_to greatest 1000 b) greatest b
 -- those of a part of a job file
 abbrev pub AreFaultsOfPart : ℕ → Part → List ℕ → List JobsFault → Type 0
 AreFaultsOfPart greatest part b = AreFaultsFor (part_jobs_up_to greatest part.number part.of b) greatest b
-
--- the same with limits up to 1000000
-abbrev pub AreFaultsOf : List ℕ → List JobsFault → Type 0
-AreFaultsOf = AreFaultsUpTo 1000000

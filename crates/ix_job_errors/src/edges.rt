@@ -2,8 +2,7 @@
 
 use hex::FromHexError;
 use ix_cbor::{CborKind, Node, Tree, decode};
-use ix_job_line::{LineFault, SelectorWord, selector_hex};
-use ix_jobs::JobErrorKind;
+use ix_jobs::{JobErrorKind, LineFault, SelectorWord, selector_hex};
 use std::alloc::Global;
 
 // The role of a part of a selector's data.

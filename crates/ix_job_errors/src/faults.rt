@@ -2,24 +2,16 @@
 
 ghost use Rattle.std.specs.Prelude.{◌≡◌, ◌≢◌, ◌∷◌, ◌++◌, IfOk, OnOk};
 ghost use Rattle.ix_jobs.specs.declared.fault.JobErrorKind.TheVariants.{Memory};
-ghost use Rattle.ix_job_errors.specs.Faults.{later, told, faults_after, AreFaultsOf, AreFaultsOfPart, AreFaultsUpTo};
+ghost use Rattle.ix_job_errors.specs.Faults.{later, told, faults_after, AreFaultsOfPart, AreFaultsUpTo};
 ghost use Rattle.ix_job_errors.specs.Steps.{AnswersAfter};
 
 use ix_jobs::{JobErrorKind, JobsFault, Part, read_jobs_part_up_to, read_jobs_up_to, split_line};
-use ix_walk::GREATEST_LIMIT;
 use std::alloc::{AllocError, Global};
 use std::collections::BTreeSet;
 
-/// The faults of a job file, in the order of its lines: none where `read_jobs` takes it, else at
-/// first the one that it reports, and after that the fault of each later line that is faulty by
-/// itself, or whose name an earlier line has.
-pub fn job_faults(alloc: Global, bytes: &[u8]) -> Result<Vec<JobsFault>, AllocError>
-    ensures { IfOk result (λ faults. AreFaultsOf bytes.now faults.items) }
-{
-    job_faults_up_to(alloc, bytes, GREATEST_LIMIT)
-}
-
-/// The same, with limits up to the greatest in place of 1,000,000.
+/// The faults of a job file whose limits are at most the greatest, in the order of its lines: none where
+/// `read_jobs_up_to` takes it, else at first the one that it reports, and after that the fault of each
+/// later line that is faulty by itself, or whose name an earlier line has.
 pub fn job_faults_up_to(
     alloc: Global,
     bytes: &[u8],

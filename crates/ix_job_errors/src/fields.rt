@@ -1,8 +1,7 @@
 //! Says why the fields of a job are rejected.
 
 use crate::words::{limit_fault, name_fault, roots_fault, selector_fault};
-use ix_job_line::{JobWords, LineFault, SelectorWord};
-use ix_jobs::JobErrorKind;
+use ix_jobs::{JobErrorKind, JobWords, LineFault, SelectorWord};
 use ix_selector_json::fault_line;
 use ix_walk::MOST_ROOTS;
 use std::alloc::{AllocError, Global};

@@ -1,3 +1,7 @@
+pub mod LineWords
+pub mod Ended
+mod ListLinesInTurn
+mod Listed
 pub mod Roots
 pub mod Pieces
 pub mod LinesInTurn

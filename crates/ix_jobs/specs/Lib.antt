@@ -1,3 +1,9 @@
+pub mod JobLine
+pub mod JobWords
+pub mod HaveList
+pub mod GivesList
+pub mod ListFaultLine
+pub mod Places
 pub mod Jobs
 pub mod LineParts
 pub mod Named

@@ -3,7 +3,6 @@ use Rattle.std.specs.Prelude.{◌≡◌, ℕ, ◌+◌, ◌-◌, ◌*◌, ◌/◌
 use Rattle.std.specs.List.{slice_split, range_with_len}
 use Rattle.std.specs.Str.Lines.{strip_carriage_return}
 use Rattle.ix_walk.specs.JobMeaning.{JobMeaning}
-use Rattle.ix_jobs.specs.declared.part.Part.{Part}
 use Rattle.ix_jobs.specs.declared.fault.JobErrorKind.{JobErrorKind}
 use Rattle.ix_jobs.specs.declared.fault.JobErrorKind.TheVariants.{TooMany}
 use Rattle.ix_jobs.specs.Jobs.{◌>>=◌, is_ignored, jobs_up_to}
@@ -41,14 +40,6 @@ few_of lines jobs = if nat_le (length jobs) 1000 then Ok jobs else Err (TooMany,
 -- line; or, where no line is faulty, the line of the job that is too many for the part.
 abbrev pub part_jobs_up_to : ℕ → ℕ → ℕ → List ℕ → Result (List JobMeaning) (JobErrorKind × ℕ)
 part_jobs_up_to greatest k n b = jobs_up_to greatest 1000000 b >>= (λ jobs. few_of (part_of k n (job_lines b)) (part_of k n jobs))
-
--- the same with limits up to 1000000
-abbrev pub part_jobs_of : ℕ → ℕ → List ℕ → Result (List JobMeaning) (JobErrorKind × ℕ)
-part_jobs_of = part_jobs_up_to 1000000
-
--- that of the part that the program names
-abbrev pub jobs_of_part : Part → List ℕ → Result (List JobMeaning) (JobErrorKind × ℕ)
-jobs_of_part part b = part_jobs_of part.number part.of b
 
 -- the jobs of a file that may have a million, from one on up to, and not including, another
 abbrev pub AreJobsBetween : ℕ → ℕ → ℕ → List ℕ → List JobMeaning → Type 0

@@ -5,7 +5,7 @@
 ghost use Rattle.std.specs.Prelude.{◌≡◌, ◌≤◌, length, get_or, Ok, IfOk, IfErr};
 ghost use Rattle.ix_walk.specs.JobMeaning.{AreFew};
 ghost use Rattle.ix_jobs.specs.Jobs.{jobs_up_to};
-ghost use Rattle.ix_jobs.specs.Parts.{job_lines, jobs_of_part, part_jobs_up_to, AreJobsBetween};
+ghost use Rattle.ix_jobs.specs.Parts.{job_lines, part_jobs_up_to, AreJobsBetween};
 ghost use Rattle.ix_jobs.specs.Gives.{IsFaultOf};
 
 use crate::fault::{JobErrorKind, JobsFault};
@@ -14,21 +14,12 @@ use crate::jobs::split_line;
 use crate::line::{is_ignored, without_return};
 use crate::part::Part;
 use crate::part_list::PartList;
-use ix_walk::{GREATEST_LIMIT, Job};
+use ix_walk::Job;
 use std::alloc::Global;
 
-/// Returns the jobs of a part of a job file that may have 1,000,000, in order. Returns the first error
-/// of the file, or, if it has none, that the part has too many jobs, with the line of the first of them
-/// that is too many.
-pub fn read_jobs_part(alloc: Global, bytes: &[u8], part: Part) -> Result<Vec<Job>, JobsFault>
-    ensures jobs { IfOk result (λ jobs. jobs_of_part part bytes.now ≡ Ok jobs.items) }
-    ensures few { IfOk result (λ jobs. AreFew jobs.items) }
-    ensures fault { IfErr result (λ fault. IsFaultOf fault (jobs_of_part part bytes.now)) }
-{
-    read_jobs_part_up_to(alloc, bytes, part, GREATEST_LIMIT)
-}
-
-/// Returns the same, with limits up to the greatest in place of 1,000,000.
+/// Returns the jobs of a part of a job file that may have 1,000,000, in order, whose limits are at most the
+/// greatest. Returns the first error of the file, or, if it has none, that the part has too many jobs,
+/// with the line of the first of them that is too many.
 pub fn read_jobs_part_up_to(
     alloc: Global,
     bytes: &[u8],

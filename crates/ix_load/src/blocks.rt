@@ -15,12 +15,12 @@ use ix_cli_io::{
     Failure, Progress, STANDARD_INPUT, check_index, check_memory, load_input, size_of_all,
 };
 use ix_files::{Copies, FileBlocks, FileFault, Reading, blocks_of, known_of};
-use ix_inspect::{Kind, kind_of};
 use ix_options::{
     ArgSpec, BLOCKS, CommandSpec, PREFER_SOUND, WITHOUT, cause_of, later_note, print_notes,
 };
 use ix_run::RunFault;
 use ix_store::{PlaceSet, Store};
+use ix_verify::{Kind, kind_of};
 use std::alloc::{AllocError, Global};
 use std::fs::File;
 use std::rt::{Clock, Files};

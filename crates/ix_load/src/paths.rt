@@ -7,13 +7,11 @@ use hex::FromHexError;
 use ix_cbor::{CborKind, Front, Tree, decode, read_front, read_key, skip_item};
 use ix_cid::Cid;
 use ix_cli_io::{ErrorCode, Failure, Stop};
-use ix_job_line::SelectorWord;
+use ix_jobs::SelectorWord;
 use ix_options::CommandSpec;
 use ix_path::{
-    NodeBytes, Obstacle, PathError, PathNode, PathStep, Resolution, RootPath, index_of, resolve,
-};
-use ix_path_selector::{
-    PathEnd, PathSelectorFault, selector_along, selector_by_segments, steps_along,
+    NodeBytes, Obstacle, PathEnd, PathError, PathNode, PathSelectorFault, PathStep, Resolution,
+    RootPath, index_of, resolve, selector_along, selector_by_segments, steps_along,
 };
 use ix_selector_json::{NotationFault, fault_line};
 use ix_store::Store;

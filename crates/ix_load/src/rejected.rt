@@ -1,9 +1,8 @@
 //! Why a job file or a have-list is rejected, with what is wrong with its first faulty line.
 
 use ix_cli_io::Failure;
-use ix_have_list::{ListErrorKind, ListFault};
 use ix_job_errors::{cid_fault_words, fault_lines};
-use ix_jobs::{JobErrorKind, JobsFault, split_line};
+use ix_jobs::{JobErrorKind, JobsFault, ListErrorKind, ListFault, split_line};
 use ix_run::RunFault;
 use std::alloc::{AllocError, Global};
 use std::str;

@@ -5,7 +5,7 @@ use clap::ArgMatches;
 use clap::error::ErrorKind;
 use ix_cid::Cid;
 use ix_cli_io::{ErrorCode, Failure, Stop};
-use ix_job_line::SelectorWord;
+use ix_jobs::SelectorWord;
 use ix_options::{ArgKind, ArgSpec, CommandSpec};
 use ix_path::{GREATEST_SEGMENTS, MOST_SEGMENTS};
 use std::alloc::{AllocError, Global};

@@ -1,7 +1,7 @@
 //! What a file is, in words.
 
 use ix_car::{CarFault, CarKind};
-use ix_inspect::Kind;
+use ix_verify::Kind;
 
 /// What is wrong with a CARv2 file whose payload can't be read.
 pub const CARV2_HEADER: &str =

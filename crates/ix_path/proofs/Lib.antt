@@ -1,3 +1,12 @@
+pub mod OwnPlace
+pub mod Entered
+pub mod Nesting
+pub mod Along
+pub mod SelectorNodes
+pub mod Ends
+pub mod EmptyUnion
+pub mod OneOf
+pub mod BySegments
 pub mod Escapes
 pub mod Pieces
 pub mod Nodes

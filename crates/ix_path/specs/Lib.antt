@@ -1,3 +1,11 @@
+pub use Rattle.ix_selector.specs.Pattern
+pub use Rattle.ix_selector.specs.Enters
+pub mod Along
+pub mod End
+pub mod Entered
+pub mod Made
+pub mod Steps
+pub mod Segments
 pub use Rattle.ix_cid.specs.Cid
 pub use Rattle.ix_cid.specs.CidText
 pub use Rattle.ix_cid_text.specs.Text

@@ -13,9 +13,9 @@ use Rattle.ix_archive.specs.Events.{Event, Calls, delivery, close}
 use Rattle.ix_archive.specs.Verified.{judged, judged_visits}
 use Rattle.ix_archive.specs.Faithful.{IsFaithful}
 use Rattle.ix_archive.specs.Archived.{IsArchived}
-use Rattle.ix_collect.proofs.Members.{cases_cons, none_in, has_got}
-use Rattle.ix_collect.proofs.Kept.{kept_same}
-use Rattle.ix_threads.proofs.Closings.{kept_set}
+use Rattle.ix_pipeline.proofs.Members.{cases_cons, none_in, has_got}
+use Rattle.ix_pipeline.proofs.Kept.{kept_same}
+use Rattle.ix_pipeline.proofs.ThreadClosings.{kept_set}
 use Rattle.ix_pipeline.specs.Progress.{pairs_of, IsExported, Exports}
 use Rattle.ix_pipeline.specs.Headline.{EachDelivered, EachArchived, EachFresh, Fact, Keeps, EachKept, IsCheckedOnce, NoneIsStart, visit_count}
 use Rattle.ix_pipeline.proofs.Pairs.{pairs_over, in_pairs, has_pair, once_over, over_push}

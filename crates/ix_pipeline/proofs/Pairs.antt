@@ -1,7 +1,7 @@
 -- The pairs that were checked: of a job, and of jobs in turn.
 use Rattle.std.proofs.Common.{◌≡◌, ◌⊎◌, ℕ, zero, suc, ◌+◌, ◌<◌, ◌≤◌, List, [], ◌∷◌, ◌++◌, length, Contains, refl, sym, ◌∙◌, ap, subst, inl, inr, arith, append_assoc, append-nil}
 use Rattle.std.proofs.lemmas.List.Elements.{Contains-append_left, Contains-append_cases, Contains-push, Contains-push_cases}
-use Rattle.ix_collect.proofs.Members.{cases_cons, none_in, has_first, has_rest}
+use Rattle.ix_pipeline.proofs.Members.{cases_cons, none_in, has_first, has_rest}
 use Rattle.ix_pipeline.specs.Progress.{pairs_of}
 use Rattle.ix_pipeline.specs.Headline.{IsEachOnce}
 

@@ -8,8 +8,8 @@ use Rattle.ix_walk.specs.declared.job.Job.{Job}
 use Rattle.ix_archive.specs.Events.{Calls}
 use Rattle.ix_archive.specs.Headline.{Fact}
 use Rattle.ix_stages.specs.JobWalks.{WalksMeaning}
-use Rattle.ix_threads.specs.declared.flowing.Outcome.{Outcome}
-use Rattle.ix_threads.specs.declared.plan.Plan.{Plan}
+use Rattle.ix_pipeline.specs.declared.flowing.Outcome.{Outcome}
+use Rattle.ix_pipeline.specs.declared.plan.Plan.{Plan}
 use Rattle.ix_pipeline.specs.declared.exporting.NotStarted.{NotStarted}
 use Rattle.ix_pipeline.specs.Headline.{EachFresh, EachKept, EachUnused}
 use Rattle.ix_pipeline.specs.Planned.{IsPlan}

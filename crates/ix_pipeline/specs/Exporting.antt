@@ -4,8 +4,8 @@ use Rattle.std.specs.Global.{Vec}
 use Rattle.ix_walk.specs.JobMeaning.{JobMeaning, AreFew}
 use Rattle.ix_archive.specs.Events.{Calls}
 use Rattle.ix_stages.specs.JobWalks.{WalksMeaning}
-use Rattle.ix_threads.specs.declared.flowing.Outcome.{Outcome}
-use Rattle.ix_threads.specs.declared.plan.Plan.{Plan}
+use Rattle.ix_pipeline.specs.declared.flowing.Outcome.{Outcome}
+use Rattle.ix_pipeline.specs.declared.plan.Plan.{Plan}
 use Rattle.ix_pipeline.specs.declared.exporting.NotStarted.{NotStarted}
 use Rattle.ix_pipeline.specs.Headline.{EachDelivered, EachArchived, EachFresh, EachKept, EachUnused, Fact, IsCheckedOnce, NoneOrAllStart, checked_by}
 use Rattle.ix_pipeline.specs.Planned.{IsPlan}

@@ -1,3 +1,17 @@
+pub mod Numbered
+pub mod JobProgress
+pub mod Steps
+pub mod Collected
+pub mod Collecting
+pub mod Received
+pub mod Laws
+pub mod Working
+pub mod Verifiers
+pub mod Caller
+pub mod Closed
+pub mod Sinks
+pub mod Flowing
+pub mod Prepared
 pub mod Headline
 pub mod Progress
 pub mod Planned

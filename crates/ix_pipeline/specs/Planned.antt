@@ -1,6 +1,6 @@
 -- What an export is given.
 use Rattle.std.specs.Prelude.{ℕ, ◌≤◌}
-use Rattle.ix_threads.specs.declared.plan.Plan.{Plan}
+use Rattle.ix_pipeline.specs.declared.plan.Plan.{Plan}
 
 -- 1 to 64 walkers, and as many verifiers; the queue and each lane have room for 1 to 4096
 pub record IsPlan (plan : Plan) (verifiers : ℕ) : Type 0 where

@@ -8,11 +8,13 @@ ghost use Rattle.ix_pipeline.specs.Headline.{EachDelivered, EachArchived, EachFr
 ghost use Rattle.ix_pipeline.specs.Headline.{EachUnused, IsCheckedOnce, NoneOrAllStart, checked_by};
 ghost use Rattle.ix_pipeline.specs.Planned.{IsPlan};
 
+use crate::flowing::flow;
+use crate::preparing::Prepared;
+use crate::{Outcome, Plan};
 use ix_archive::{Sink, law};
 use ix_check::Check;
 use ix_stages::{Gate, JobWalks, Open, Task};
 use ix_store::Store;
-use ix_threads::{Outcome, Plan, Prepared, flow};
 use ix_walk::Job;
 use std::alloc::{AllocFailed, Global};
 use std::sync::{Arc, Wait};

@@ -5,7 +5,7 @@ use clap::ArgMatches;
 use ix_cid::Cid;
 use ix_cli_io::{ErrorCode, Failure};
 use ix_job_errors::job_fault_words;
-use ix_job_line::{JobWords, SelectorWord, jobs_of_words, selector_hex};
+use ix_jobs::{JobWords, SelectorWord, jobs_of_words, selector_hex};
 use ix_load::{RootPaths, Roots, SCOPE, Scope, Unresolved, no_jobs};
 use ix_path::RootPath;
 use ix_walk::Job;

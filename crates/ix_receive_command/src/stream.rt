@@ -7,7 +7,6 @@ use ix_archive::Skip;
 use ix_car::{CarKind, header_of, read_header, read_section};
 use ix_cid::read_varint;
 use ix_cli_io::Progress;
-use ix_inspect::{Kind, kind_of};
 use ix_options::words_of;
 use ix_own_archive::{
     AllowMissing, ArchiveReason, Counts, ExpectedHeader, StreamFault, StreamLimits, StreamReason,
@@ -15,6 +14,7 @@ use ix_own_archive::{
 };
 use ix_read_ahead::ReadAhead;
 use ix_store::Store;
+use ix_verify::{Kind, kind_of};
 use ix_walk::Job;
 use std::alloc::{AllocError, Global};
 use std::io::{self, ErrorKind, Read, Write};

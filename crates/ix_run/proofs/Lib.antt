@@ -1,3 +1,4 @@
+pub mod Exports
 pub mod Told
 pub mod Runs
 pub mod Alone

@@ -1,3 +1,6 @@
+pub mod Root
+pub mod Input
+pub mod Command
 pub mod FaultLine
 pub mod Prepare
 pub mod Choosing

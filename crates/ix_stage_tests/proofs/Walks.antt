@@ -9,14 +9,14 @@ use Rattle.ix_walk.specs.JobMeaning.{JobMeaning}
 use Rattle.ix_walk.specs.WalkLeft.{WalkLeft, GivesNext}
 use Rattle.ix_archive.specs.declared.sink.End.{End}
 use Rattle.ix_walk.specs.Visits.{whole_walk}
-use Rattle.ix_channels.specs.Course.{course_of, course_visits, course_over}
-use Rattle.ix_channels.specs.CourseLaws.{IsSized, HasVisits, HasOver, AllowsVisits}
-use Rattle.ix_channels.specs.Good.{IsCloseOf}
-use Rattle.ix_channels.specs.declared.course.JobVisits.{JobVisits}
-use Rattle.ix_channels.specs.declared.item.Item.TheVariants as item
-use Rattle.ix_channels.specs.declared.queue.VisitQueue.{VisitQueue}
-use Rattle.ix_channels.specs.Queue.{table_of}
-use Rattle.ix_channels.specs.Seats.{JobView, IsNext, new_job, new_taker}
+use Rattle.ix_stages.specs.Course.{course_of, course_visits, course_over}
+use Rattle.ix_stages.specs.CourseLaws.{IsSized, HasVisits, HasOver, AllowsVisits}
+use Rattle.ix_stages.specs.Good.{IsCloseOf}
+use Rattle.ix_stages.specs.declared.course.JobVisits.{JobVisits}
+use Rattle.ix_stages.specs.declared.item.Item.TheVariants as item
+use Rattle.ix_stages.specs.declared.queue.VisitQueue.{VisitQueue}
+use Rattle.ix_stages.specs.Queue.{table_of}
+use Rattle.ix_stages.specs.Seats.{JobView, IsNext, new_job, new_taker}
 use Rattle.ix_stage_tests.specs.Walkers.{CanWalk, HasLeft, IsLeft, IsTaker}
 
 -- new seats can walk, as each has put nothing

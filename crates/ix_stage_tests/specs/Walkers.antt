@@ -6,13 +6,13 @@ use Rattle.atomic_table.specs.Seated.{TableId}
 use Rattle.ix_walk.specs.declared.visit.Visit.{Visit}
 use Rattle.ix_walk.specs.JobMeaning.{JobMeaning}
 use Rattle.ix_walk.specs.WalkLeft.{WalkLeft}
-use Rattle.ix_channels.specs.declared.item.Item.{Item}
-use Rattle.ix_channels.specs.declared.parts.QueueParts.{QueueParts}
-use Rattle.ix_channels.specs.declared.course.JobVisits.{JobVisits}
-use Rattle.ix_channels.specs.declared.queue.VisitQueue.{VisitQueue}
-use Rattle.ix_channels.specs.Course.{course_visits, course_over}
-use Rattle.ix_channels.specs.Queue.{table_of}
-use Rattle.ix_channels.specs.Seats.{JobView, SeatView, IsNext}
+use Rattle.ix_stages.specs.declared.item.Item.{Item}
+use Rattle.ix_stages.specs.declared.parts.QueueParts.{QueueParts}
+use Rattle.ix_stages.specs.declared.course.JobVisits.{JobVisits}
+use Rattle.ix_stages.specs.declared.queue.VisitQueue.{VisitQueue}
+use Rattle.ix_stages.specs.Course.{course_visits, course_over}
+use Rattle.ix_stages.specs.Queue.{table_of}
+use Rattle.ix_stages.specs.Seats.{JobView, SeatView, IsNext}
 
 -- each job's limit is below 2^32
 abbrev pub AreSmall : List JobMeaning → Type 0

@@ -2,12 +2,12 @@
 
 ghost use Rattle.std.specs.Prelude.{◌<◌, IfOk};
 ghost use Rattle.ix_archive.specs.Headline.{EachFresh};
-ghost use Rattle.ix_channels.specs.Lanes.{IsLane};
+ghost use Rattle.ix_stages.specs.Lanes.{IsLane};
 
 use ix_archive::{End, Sink};
 use ix_check::Verdict;
-use ix_collect::{Collector, drain_all, drain_lane, law, poll_lanes};
 use ix_fixtures::{ABC, Log, cid_of};
+use ix_pipeline::{Collector, drain_all, drain_lane, law, poll_lanes};
 use ix_stages::{LaneIn, LaneOut, Verdicted, lane};
 use ix_walk::Visit;
 use std::alloc::{AllocError, Global};
@@ -103,8 +103,8 @@ struct Gathering<const N: usize> {
 
 impl<const N: usize> Model for Gathering<N> {
     ghost use Rattle.std.specs.Prelude.{ℕ};
-    ghost use Rattle.ix_collect.specs.Collected.{job_count};
-    ghost use Rattle.ix_collect.specs.Collecting.{CanCollect};
+    ghost use Rattle.ix_pipeline.specs.Collected.{job_count};
+    ghost use Rattle.ix_pipeline.specs.Collecting.{CanCollect};
 
     ghost Value = { ℕ };
 

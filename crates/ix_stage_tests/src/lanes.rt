@@ -2,8 +2,8 @@
 //! runtime, or one that can't wait.
 
 ghost use Rattle.std.specs.Prelude.{All, IfOk};
-ghost use Rattle.ix_channels.specs.Claims.{IsOfClaims};
-ghost use Rattle.ix_channels.specs.Lanes.{IsLane, IsSameLane, SameIn};
+ghost use Rattle.ix_stages.specs.Claims.{IsOfClaims};
+ghost use Rattle.ix_stages.specs.Lanes.{IsLane, IsSameLane, SameIn};
 
 use ix_fixtures::{Awaited, TURNS};
 use ix_stages::{ClaimSeat, Claims, LaneIn, LaneOut, Verdicted, lane_rest};

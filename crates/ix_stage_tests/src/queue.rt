@@ -2,21 +2,20 @@
 //! through a queue with room for one.
 
 ghost use Rattle.std.specs.Prelude.{◌≡◌, ◌<◌, None, Some, false, All, IfOk, IfSome, length, slice_get};
-ghost use Rattle.ix_channels.specs.Course.{IsCourseOf, course_of};
-ghost use Rattle.ix_channels.specs.Making.{IsNewQueue};
-ghost use Rattle.ix_channels.specs.declared.item.Item.{Item};
-ghost use Rattle.ix_channels.specs.Queue.{table_of};
-ghost use Rattle.ix_channels.specs.Seats.{IsNext, closed_after, next_after};
+ghost use Rattle.ix_stages.specs.Course.{IsCourseOf, course_of};
+ghost use Rattle.ix_stages.specs.Making.{IsNewQueue};
+ghost use Rattle.ix_stages.specs.declared.item.Item.{Item};
+ghost use Rattle.ix_stages.specs.Queue.{table_of};
+ghost use Rattle.ix_stages.specs.Seats.{IsNext, closed_after, next_after};
 ghost use Rattle.ix_stage_tests.specs.Walkers.{CanWalk, CanAllWalk, CanGoOn, CanClose, HasLeft, IsLeft};
 ghost use Rattle.ix_stage_tests.specs.Walkers.{AreSmall, IsOneJob, IsSameTable, IsWalker, IsTaker, HasWalked};
 
 use ix_archive::End;
-use ix_channels::law;
 use ix_check::{ShaCheck, Verdict};
 use ix_fixtures::{INNER_BLOCK, ONE_LINK, OUTER, TURNS, chain_of, jobs_of, store_of};
 use ix_stages::{
     Course, Item, JobSeat, LaneOut, QueueParts, StopSeat, TakeSeat, Verdicted, VisitQueue, lane,
-    verify,
+    law, verify,
 };
 use ix_store::Store;
 use ix_walk::{Job, Walk, WalkStop};
@@ -233,7 +232,7 @@ struct QueueOut<'a> {
 }
 
 impl<'a> Model for QueueOut<'a> {
-    ghost use Rattle.ix_channels.specs.Seats.{SeatView};
+    ghost use Rattle.ix_stages.specs.Seats.{SeatView};
     ghost use Rattle.ix_stage_tests.specs.Walkers.{IsTaker};
 
     ghost Value = { SeatView };

@@ -1,6 +1,6 @@
 //! A ring of letters, call by call.
 
-use ix_reorder::{Ring, RingFault};
+use ix_pipeline::{Ring, RingFault};
 use std::process::Abort;
 use std::test::Fail;
 

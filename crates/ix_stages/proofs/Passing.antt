@@ -5,17 +5,17 @@ use Rattle.std.proofs.lemmas.List.Elements.{All-nil, All-head, All-tail, All-pus
 use Rattle.ix_walk.specs.declared.visit.Visit.{Visit}
 use Rattle.ix_store.specs.Store.{Blocks}
 use Rattle.ix_check.specs.Visits.{IsVisitOf}
-use Rattle.ix_channels.specs.declared.course.JobVisits.{JobVisits}
-use Rattle.ix_channels.specs.declared.item.Item.{Item}
-use Rattle.ix_channels.specs.declared.item.Item.TheVariants as item
-use Rattle.ix_channels.specs.declared.verdicted.Verdicted.{Verdicted}
-use Rattle.ix_channels.specs.declared.verdicted.Verdicted.TheVariants.{Checked, Unchecked, Close, Last}
-use Rattle.ix_channels.specs.declared.pass_view.PassView.{PassView}
-use Rattle.ix_channels.specs.PassViews.{after_take}
-use Rattle.ix_channels.specs.Course.{Allowed, IsCourseOf, course_visits}
-use Rattle.ix_channels.specs.Received.{pairs_of}
-use Rattle.ix_channels.specs.Seats.{IsTake}
-use Rattle.ix_channels.specs.Sent.{Answers, SentFor}
+use Rattle.ix_stages.specs.declared.course.JobVisits.{JobVisits}
+use Rattle.ix_stages.specs.declared.item.Item.{Item}
+use Rattle.ix_stages.specs.declared.item.Item.TheVariants as item
+use Rattle.ix_stages.specs.declared.verdicted.Verdicted.{Verdicted}
+use Rattle.ix_stages.specs.declared.verdicted.Verdicted.TheVariants.{Checked, Unchecked, Close, Last}
+use Rattle.ix_stages.specs.declared.pass_view.PassView.{PassView}
+use Rattle.ix_stages.specs.PassViews.{after_take}
+use Rattle.ix_stages.specs.Course.{Allowed, IsCourseOf, course_visits}
+use Rattle.ix_stages.specs.Received.{pairs_of}
+use Rattle.ix_stages.specs.Seats.{IsTake}
+use Rattle.ix_stages.specs.Sent.{Answers, SentFor}
 use Rattle.ix_stages.specs.Verified.{IsItemOf, IsStop, took, Passed, IsVerified}
 
 -- ---- what the course allows has the block and the malformed of the store

@@ -8,12 +8,12 @@ use Rattle.ix_walk.specs.declared.fault.WalkStop.{WalkStop}
 use Rattle.ix_walk.specs.WalkLeft.{WalkLeft, GivesNext}
 use Rattle.ix_walk.specs.Visits.{visits_of, is_over_limit}
 use Rattle.ix_archive.specs.declared.sink.End.{End}
-use Rattle.ix_channels.specs.declared.course.JobVisits.{JobVisits}
-use Rattle.ix_channels.specs.declared.item.Item.TheVariants as item
-use Rattle.ix_channels.specs.Course.{Allowed, course_of}
-use Rattle.ix_channels.specs.CourseLaws.{AllowsVisits, AllowsCloses}
-use Rattle.ix_channels.specs.Good.{IsCloseOf}
-use Rattle.ix_channels.specs.Seats.{IsNext, JobView}
+use Rattle.ix_stages.specs.declared.course.JobVisits.{JobVisits}
+use Rattle.ix_stages.specs.declared.item.Item.TheVariants as item
+use Rattle.ix_stages.specs.Course.{Allowed, course_of}
+use Rattle.ix_stages.specs.CourseLaws.{AllowsVisits, AllowsCloses}
+use Rattle.ix_stages.specs.Good.{IsCloseOf}
+use Rattle.ix_stages.specs.Seats.{IsNext, JobView}
 
 -- the visit that the walk returns is at the seat's next number in its course, since the walk's remaining visits are those from
 -- there on

@@ -3,7 +3,7 @@ use Rattle.std.specs.Prelude.{List}
 use Rattle.atomic_table.specs.Seated.{TableId}
 use Rattle.ix_store.specs.Store.{Blocks}
 use Rattle.ix_walk.specs.JobMeaning.{JobMeaning}
-use Rattle.ix_channels.specs.Queue.{table_of}
+use Rattle.ix_stages.specs.Queue.{table_of}
 use Rattle.ix_stages.specs.declared.shared.Shared.{Shared}
 
 module _ {G : Type 0} where

@@ -2,16 +2,16 @@
 use Rattle.std.specs.Prelude.{◌≡◌, ℕ, List, [], ◌∷◌, ◌++◌, All}
 use Rattle.ix_store.specs.Store.{Blocks}
 use Rattle.ix_check.specs.Visits.{IsVisitOf}
-use Rattle.ix_channels.specs.declared.item.Item.{Item}
-use Rattle.ix_channels.specs.declared.item.Item.TheVariants as item
-use Rattle.ix_channels.specs.declared.verdicted.Verdicted.{Verdicted}
-use Rattle.ix_channels.specs.declared.pass_view.PassView.{PassView}
-use Rattle.ix_channels.specs.declared.lanes.LaneIn.{LaneIn}
-use Rattle.ix_channels.specs.Lanes.{sent_by}
-use Rattle.ix_channels.specs.Received.{pairs_of}
-use Rattle.ix_channels.specs.Seats.{SeatView}
-use Rattle.ix_channels.specs.Sent.{SentFor}
-use Rattle.ix_channels.specs.Course.{Allowed}
+use Rattle.ix_stages.specs.declared.item.Item.{Item}
+use Rattle.ix_stages.specs.declared.item.Item.TheVariants as item
+use Rattle.ix_stages.specs.declared.verdicted.Verdicted.{Verdicted}
+use Rattle.ix_stages.specs.declared.pass_view.PassView.{PassView}
+use Rattle.ix_stages.specs.declared.lanes.LaneIn.{LaneIn}
+use Rattle.ix_stages.specs.Lanes.{sent_by}
+use Rattle.ix_stages.specs.Received.{pairs_of}
+use Rattle.ix_stages.specs.Seats.{SeatView}
+use Rattle.ix_stages.specs.Sent.{SentFor}
+use Rattle.ix_stages.specs.Course.{Allowed}
 
 -- the item, if it is a visit, says of its CID what the store says: the block, and whether it is malformed
 abbrev pub IsItemOf : Blocks → Item → Type 0

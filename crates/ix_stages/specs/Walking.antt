@@ -3,9 +3,9 @@ use Rattle.std.specs.Prelude.{◌≡◌, ◌<◌, false, List, length, All}
 use Rattle.atomic_table.specs.Seated.{TableId}
 use Rattle.ix_store.specs.Store.{Blocks}
 use Rattle.ix_walk.specs.JobMeaning.{JobMeaning}
-use Rattle.ix_channels.specs.Claims.{SeatMeaning, IsOfClaims}
-use Rattle.ix_channels.specs.Course.{course_of}
-use Rattle.ix_channels.specs.Seats.{JobView}
+use Rattle.ix_stages.specs.Claims.{SeatMeaning, IsOfClaims}
+use Rattle.ix_stages.specs.Course.{course_of}
+use Rattle.ix_stages.specs.Seats.{JobView}
 use Rattle.ix_stages.specs.declared.shared.Shared.{Shared}
 use Rattle.ix_stages.specs.Shared.{store_of, jobs_of, queue_of}
 

@@ -1,7 +1,7 @@
 //! The inputs of an export, and what its threads share.
 
 use crate::job_walks::JobWalks;
-use ix_channels::{Claims, JobSeat, VisitQueue};
+use crate::{Claims, JobSeat, VisitQueue};
 
 /// The inputs of an export: the walks of the jobs over the blocks, and the gate that walkers call.
 #[derive(Drop)]

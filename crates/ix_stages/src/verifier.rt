@@ -1,14 +1,14 @@
 //! A verifier: takes visits, checks them and sends their verdicts.
 
 ghost use Rattle.std.specs.Prelude.{◌≡◌, [], ◌∷◌, ◌++◌, IsTrue, ◌↔◌};
-ghost use Rattle.ix_channels.specs.Course.{IsCourseOf};
-ghost use Rattle.ix_channels.specs.Lanes.{sent_by, SameIn};
-ghost use Rattle.ix_channels.specs.Queue.{IsOfQueue};
-ghost use Rattle.ix_channels.specs.Received.{pairs_of};
-ghost use Rattle.ix_channels.specs.Sent.{Answers};
+ghost use Rattle.ix_stages.specs.Course.{IsCourseOf};
+ghost use Rattle.ix_stages.specs.Lanes.{sent_by, SameIn};
+ghost use Rattle.ix_stages.specs.Queue.{IsOfQueue};
+ghost use Rattle.ix_stages.specs.Received.{pairs_of};
+ghost use Rattle.ix_stages.specs.Sent.{Answers};
 ghost use Rattle.ix_stages.specs.Verified.{IsItemOf, IsStop, HasVerified};
 
-use ix_channels::{Backoff, Item, LaneIn, TakeSeat, Verdicted, VisitQueue};
+use crate::{Backoff, Item, LaneIn, TakeSeat, Verdicted, VisitQueue};
 use ix_check::Check;
 use ix_store::Store;
 use std::alloc::{AllocError, Global};

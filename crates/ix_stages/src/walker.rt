@@ -1,14 +1,14 @@
 //! A walker: claims jobs, one after the other, and puts their visits.
 
 ghost use Rattle.std.specs.Prelude.{◌≡◌, false, Some, slice_get};
-ghost use Rattle.ix_channels.specs.declared.item.Item.{Item};
-ghost use Rattle.ix_channels.specs.Course.{Allowed};
+ghost use Rattle.ix_stages.specs.declared.item.Item.{Item};
+ghost use Rattle.ix_stages.specs.Course.{Allowed};
 ghost use Rattle.ix_stages.specs.Walking.{IsReadyIn, CanClaim};
 
 use crate::gate::Gate;
 use crate::shared::Shared;
+use crate::{ClaimSeat, Item, JobSeat, law};
 use ix_archive::End;
-use ix_channels::{ClaimSeat, Item, JobSeat, law};
 use ix_walk::{Job, WalkStop};
 use std::alloc::Global;
 use std::sync::Wait;

@@ -1,3 +1,4 @@
+pub mod DistinctCids
 pub mod Outcomes
 pub mod Notes
 pub mod Walking

@@ -1,4 +1,7 @@
 pub use Rattle.ix_car.specs.Sections
+pub mod Kinds
+pub mod Tallied
+pub mod Names
 pub mod Outcome
 pub mod Judged
 pub mod Noting

@@ -1,4 +1,4 @@
-//! Verifies CARv1 files: each section by its own bytes, and everything below the roots.
+//! Verifies CARv1 files, each section by its own bytes and everything below the roots, and describes files.
 //!
 //! `verify` checks every section of the file, also those whose CID occurred before, and then follows all
 //! links from the roots in the header, in one walk. The findings are a function of the bytes, however many
@@ -26,23 +26,41 @@
 //! let walk = JobWalk { store: &store, job: &job, allowed, observer: &Unobserved };
 //! let found = verify_job(rt, alloc, &update, walk, threads, 20)?;
 //! ```
+//!
+//! `summary_of` describes a file and its contents without hashing, and `kind_of` says what a file is that is no CAR file.
+//!
+//! ```rust
+//! match summary_of(rt, alloc, &file, 0, 4) {
+//!     Ok(summary) => println!(rt; "{} sections", summary.sections)?,
+//!     Err(_) => println!(rt; "{:?}", kind_of(file.as_slice()))?,
+//! }
+//! ```
 #![tactic(auto)]
 
 mod car_bytes;
 mod everything;
 mod file;
 mod found;
+mod kind;
 pub mod law;
+mod names;
 mod noted;
 mod observer;
 mod other_file;
 mod reach;
+mod repeats;
 mod section;
+mod summary;
+mod tally;
 
 pub use car_bytes::CarBytes;
 pub use file::{JobWalk, verify, verify_beside, verify_job, verify_sections};
 pub use found::{AllowMissing, Copies, Findings, Outcome, Scope, Unsound};
+pub use kind::{Kind, kind_of};
+pub use names::{codec_name, hash_name};
 pub use noted::Noted;
 pub use observer::{Observer, Unobserved};
 pub use other_file::{Beside, OtherFile, load_beside};
-pub use section::{judge, judge_all};
+pub use section::judge;
+pub use summary::{Summary, summary_of};
+pub use tally::Tally;

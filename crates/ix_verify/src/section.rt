@@ -30,20 +30,8 @@ pub fn judge(section: &Section<'_>) -> Verdict
     )
 }
 
-/// Returns the verdicts on sections, in order, with at most so many threads.
-pub fn judge_all<R: Threads + Sync>(
-    rt: &R,
-    alloc: Global,
-    sections: &[Section<'_>],
-    threads: NonZeroUsize,
-) -> Result<Vec<Verdict>, AllocError>
-    ensures { IfOk result (λ verdicts. verdicts.items ≡ map verdict_in sections.now) }
-{
-    verdicts_with_store(rt, alloc, (None, 0), sections, threads)
-}
-
-// Returns the same with a store, if there is one, which may have the first section at this position.
-// If it has the very block of a section under the section's CID, its verdict counts: a block is hashed
+// Returns the verdicts on sections, in order, with at most so many threads, and with a store, if there is
+// one, which may have the first section at this position. If it has the very block of a section under the section's CID, its verdict counts: a block is hashed
 // once, and a settled store caches it.
 pub(crate) fn verdicts_with_store<R: Threads + Sync>(
     rt: &R,

@@ -1,8 +1,8 @@
 use Rattle.std.proofs.Common.{rules, List, subst, refl}
 use Rattle.ix_store.specs.Store.{Blocks}
 use Rattle.ix_walk.specs.JobMeaning.{JobMeaning}
-use Rattle.ix_collect.proofs.Kept.{kept_same}
-use Rattle.ix_threads.specs.Prepared.{IsPrepared}
+use Rattle.ix_pipeline.proofs.Kept.{kept_same}
+use Rattle.ix_pipeline.specs.Prepared.{IsPrepared}
 use Rattle.ix_pipeline.proofs.Exported.{archived_of_delivered}
 use Rattle.ix_pipeline.proofs.exporting.export_gated.Goals as goal
 

@@ -1,5 +1,5 @@
 use Rattle.std.proofs.Common.{ℕ, ◌+◌, ◌<◌, ◌≤◌, ◌∙◌, ap, subst}
-use Rattle.ix_collect.proofs.Kept.{kept_same}
+use Rattle.ix_pipeline.proofs.Kept.{kept_same}
 use Rattle.ix_pipeline.proofs.Exported.{through_none, through_more, archived_of_delivered, all_delivered, all_started, all_checked}
 use Rattle.ix_pipeline.proofs.plain.export_plain.Goals as goal
 

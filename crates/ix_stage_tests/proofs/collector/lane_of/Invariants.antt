@@ -1,4 +1,4 @@
-use Rattle.ix_channels.specs.Lanes.{IsLane}
+use Rattle.ix_stages.specs.Lanes.{IsLane}
 use Rattle.ix_stage_tests.proofs.collector.lane_of.Given as goal
 
 abbrev pub invariant-loop-sent : goal.invariant-loop-sent

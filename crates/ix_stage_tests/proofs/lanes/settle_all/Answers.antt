@@ -1,8 +1,8 @@
 use Rattle.std.proofs.Common.{◌≡◌, ◌++◌, ◌∷◌, [], List, All, IfOk, Result, ap, sym, subst, ◌∙◌, append_assoc}
 use Rattle.std.specs.declared.alloc.AllocError.{AllocError}
 use Rattle.std.proofs.lemmas.List.Elements.{All-push}
-use Rattle.ix_channels.specs.Claims.{SeatMeaning}
-use Rattle.ix_channels.proofs.ClaimSettling.{all_after}
+use Rattle.ix_stages.specs.Claims.{SeatMeaning}
+use Rattle.ix_stages.proofs.ClaimSettling.{all_after}
 use Rattle.ix_stage_tests.specs.declared.lanes.Claimed.{Claimed}
 use Rattle.ix_stage_tests.proofs.lanes.settle_all.Goals as goal
 

@@ -4,8 +4,8 @@ use Rattle.ix_archive.specs.declared.sink.End.TheVariants.{Done}
 use Rattle.ix_walk.specs.declared.visit.Visit.{Visit}
 use Rattle.ix_walk.specs.declared.fault.WalkStop.{WalkStop}
 use Rattle.ix_walk.specs.WalkLeft.{GivesNext}
-use Rattle.ix_channels.specs.Course.{course_visits}
-use Rattle.ix_channels.specs.Seats.{IsNext}
+use Rattle.ix_stages.specs.Course.{course_visits}
+use Rattle.ix_stages.specs.Seats.{IsNext}
 use Rattle.ix_stage_tests.proofs.Walks.{visit_is_next, left_behind, close_is_next}
 use Rattle.ix_stage_tests.proofs.queue.next_item.Goals as goal
 

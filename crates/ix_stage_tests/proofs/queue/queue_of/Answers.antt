@@ -1,5 +1,5 @@
 use Rattle.std.proofs.lemmas.List.Elements.{All-same}
-use Rattle.ix_channels.specs.Course.{course_of}
+use Rattle.ix_stages.specs.Course.{course_of}
 use Rattle.ix_stage_tests.specs.Walkers.{CanWalk, IsTaker}
 use Rattle.ix_stage_tests.proofs.Walks.{new_jobs-walk, new_takers-take}
 use Rattle.ix_stage_tests.proofs.queue.queue_of.Goals as goal

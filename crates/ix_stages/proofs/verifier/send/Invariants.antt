@@ -1,5 +1,5 @@
 use Rattle.std.proofs.Common.{◌≡◌}
-use Rattle.ix_channels.specs.Lanes.{sent_by, SameIn}
+use Rattle.ix_stages.specs.Lanes.{sent_by, SameIn}
 use Rattle.ix_stages.proofs.verifier.send.Given as goal
 
 abbrev pub invariant-loop : goal.invariant-loop

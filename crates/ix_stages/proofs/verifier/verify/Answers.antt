@@ -1,9 +1,9 @@
 use Rattle.std.proofs.Common.{refl, sym, subst, List, ◌∙◌, true≢false}
 use Rattle.std.proofs.lemmas.List.Elements.{All-nil, All-push}
-use Rattle.ix_channels.specs.declared.course.JobVisits.{JobVisits}
-use Rattle.ix_channels.specs.Course.{Allowed}
+use Rattle.ix_stages.specs.declared.course.JobVisits.{JobVisits}
+use Rattle.ix_stages.specs.Course.{Allowed}
 use Rattle.ix_stages.specs.Verified.{IsStop}
-use Rattle.ix_channels.proofs.LaneEnds.{same_again}
+use Rattle.ix_stages.proofs.LaneEnds.{same_again}
 use Rattle.ix_stages.proofs.Passing.{passed_none, passed_more, verified, same_course, item_of_store}
 use Rattle.ix_stages.proofs.verifier.verify.Goals as goal
 

@@ -1,5 +1,5 @@
 use Rattle.std.proofs.Common.{◌≡◌, All}
-use Rattle.ix_channels.specs.Lanes.{sent_by, SameIn}
+use Rattle.ix_stages.specs.Lanes.{sent_by, SameIn}
 use Rattle.ix_stages.specs.Verified.{IsStop, Passed}
 use Rattle.ix_stages.proofs.verifier.verify.Given as goal
 

@@ -1,5 +1,0 @@
-use Rattle.ix_channels.proofs.JobCourses.{good}
-use Rattle.ix_channels.proofs.law.well_taken_is_good.Goals as goal
-
-pub returns : goal.returns
-returns c = good

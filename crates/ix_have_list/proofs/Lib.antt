@@ -1,2 +1,0 @@
-mod LinesInTurn
-mod Listed

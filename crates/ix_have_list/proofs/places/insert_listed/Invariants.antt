@@ -1,6 +1,0 @@
-use Rattle.std.proofs.Common.{drop}
-use Rattle.ix_have_list.proofs.Listed.{HasSoFar}
-use Rattle.ix_have_list.proofs.places.insert_listed.Given as goal
-
-abbrev pub invariant-loop-cid : goal.invariant-loop-cid
-invariant-loop-cid l = HasSoFar l.store l.cids (drop l.cid-index l.cids) l.initial.known l.known

@@ -1,4 +1,0 @@
-pub mod HaveList
-pub mod Gives
-pub mod FaultLine
-pub mod Places

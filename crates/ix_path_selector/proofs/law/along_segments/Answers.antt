@@ -1,5 +1,0 @@
-use Rattle.ix_path_selector.proofs.OneOf.{enters_one_of}
-use Rattle.ix_path_selector.proofs.law.along_segments.Goals as goal
-
-pub returns : goal.returns
-returns c = enters_one_of

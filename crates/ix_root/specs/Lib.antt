@@ -1,3 +1,0 @@
-pub mod Root
-pub mod Input
-pub mod Command

@@ -1,5 +1,0 @@
-use Rattle.ix_threads.specs.Caller.{Stops}
-use Rattle.ix_threads.proofs.caller.Caller.stop_unfed.Given as goal
-
-abbrev pub invariant-loop : goal.invariant-loop
-invariant-loop g l = Stops l.fn.self l.self
