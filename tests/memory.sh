@@ -200,6 +200,19 @@ each_of() {
 : >input
 each_of "$top/examples/library.car" "$top/examples/library.jobs" "$top/examples/expected" album first-three front parts whole
 
+# A job file with a faulty line. The last requests are for its cause, but for those of the line that is printed. If one of them is
+# refused, the error is the line's own all the same.
+printf 'a zabc 1 a1612ea0\n' >faulty.jobs
+words=(jobs --blocks "$top/examples/library.car" --jobs faulty.jobs --out out)
+run 0 0 "${words[@]}"
+expect_text 'the error' 'jobs: root at line 1' "$(sed -n 1p stderr)"
+read -r last _ <counts
+for ((request = last - 15; request < last - 3; request++)); do
+  run "$request" 0 "${words[@]}"
+  [ "$status" = 2 ] || fail 'another status'
+  expect_text 'the error' 'jobs: root at line 1' "$(sed -n 1p stderr)"
+done
+
 # The command `get` over the same blocks: what is skipped there is no root, so where it ends with 3 the archive is whole.
 wanted=$top/examples/expected/whole.car
 words=(get --blocks "$top/examples/library.car" --root bafyreigiavswv62tcfji62na4ecatawlzg33sy6uezl5lj3g56mxdhbnmq --walkers 1 --verifiers 1)
