@@ -10,7 +10,7 @@ ghost use Rattle.ix_base.specs.Findings.{pair_of, IsFinding, IsFindingAt};
 use ix_car::Section;
 use ix_cid::Cid;
 use ix_cid::code::DAG_CBOR;
-use ix_interleave::map_interleaved;
+use ix_store::map_interleaved;
 use ix_store::{PlaceSet, Store, has_fault, verdict_on};
 use ix_verdict::{Needed, Verdict, bytes_needed};
 use std::alloc::{AllocError, Global};

@@ -1,3 +1,4 @@
+mod Sharing
 pub mod Stores
 pub mod Indexes
 pub mod Room

@@ -14,6 +14,11 @@
 //!     println!(rt; "{} bytes, sound: {}", store.bytes(place).len(), store.hash_matches(place))?;
 //! }
 //! ```
+//!
+//! `map_interleaved` calls a function at the numbers from zero on, by threads that take the numbers in
+//! turn: with three threads one is given 0, 3, 6 .., one 1, 4, 7 .., and one 2, 5, 8 .. So if what a call
+//! costs depends on where in a list its item is, as in a file whose large blocks are first, each thread
+//! has about the same to do.
 #![tactic(auto)]
 
 mod builder;
@@ -21,6 +26,7 @@ mod cursor;
 mod digest;
 mod fill;
 mod index;
+mod interleaved;
 mod judge;
 mod judged;
 mod memo;
@@ -33,6 +39,7 @@ mod verify;
 
 pub use builder::StoreBuilder;
 pub use cursor::Cursor;
+pub use interleaved::map_interleaved;
 pub use judge::verdict_on;
 pub use places::PlaceSet;
 pub use sound::{SoundBuilder, SoundStore};

@@ -7,7 +7,7 @@ ghost use Rattle.ix_verify.specs.Judged.{verdict_in, section_pair};
 use ix_car::Section;
 use ix_cbor::check;
 use ix_cid::code::DAG_CBOR;
-use ix_interleave::map_interleaved;
+use ix_store::map_interleaved;
 use ix_store::Store;
 use ix_verdict::{Verdict, has_digest};
 use std::alloc::{AllocError, Global};

@@ -1,6 +1,6 @@
 use Rattle.std.proofs.Common.{◌≡◌, length}
 use Rattle.std.specs.Fork.{GivesEach}
-use Rattle.ix_interleave.proofs.interleaved.map_interleaved.Given as goal
+use Rattle.ix_store.proofs.interleaved.map_interleaved.Given as goal
 
 -- a result for each number so far
 abbrev pub invariant-loop-number : goal.invariant-loop-number

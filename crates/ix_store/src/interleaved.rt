@@ -2,7 +2,7 @@
 
 ghost use Rattle.std.specs.Prelude.{◌≡◌, ◌<◌, ℕ, vec_len, IfOk};
 ghost use Rattle.std.specs.Fork.{GivesEach};
-ghost use Rattle.ix_interleave.specs.Shares.{IsShare};
+ghost use Rattle.ix_store.specs.Shares.{IsShare};
 
 use std::alloc::{AllocError, Global};
 use std::thread::{Threads, map_indices};

@@ -1,8 +1,8 @@
 use Rattle.std.proofs.Common.{◌≡◌, ℕ, ◌+◌, ◌-◌, ◌*◌, ◌<◌, length}
 use Rattle.std.specs.Prelude.{min, slice_index_or}
 use Rattle.std.specs.Fn.{FnReturns}
-use Rattle.ix_interleave.proofs.Sharing.{greatest}
-use Rattle.ix_interleave.proofs.interleaved.share_of.Given as goal
+use Rattle.ix_store.proofs.Sharing.{greatest}
+use Rattle.ix_store.proofs.interleaved.share_of.Given as goal
 
 -- the next number, and a result for each one before it
 abbrev pub invariant-loop-number : goal.invariant-loop-number

@@ -1,8 +1,8 @@
 use Rattle.std.proofs.Common.{◌≡◌, ◌<◌, ◌^◌, ℕ, ◌+◌, ◌*◌, [], ◌∷◌, ◌++◌, length, sym, ap, subst, ◌∙◌, arith}
 use Rattle.std.specs.Prelude.{min, slice_index_or}
 use Rattle.std.specs.Fn.{FnReturns}
-use Rattle.ix_interleave.proofs.Sharing.{greatest, each-more, next-number, here-now, whole-share}
-use Rattle.ix_interleave.proofs.interleaved.share_of.Goals as goal
+use Rattle.ix_store.proofs.Sharing.{greatest, each-more, next-number, here-now, whole-share}
+use Rattle.ix_store.proofs.interleaved.share_of.Goals as goal
 
 pub loop-number-init : goal.loop-number-init
 loop-number-init g c =

@@ -1,9 +1,9 @@
 use Rattle.std.proofs.Common.{rules, ◌≡◌, ◌<◌, ℕ, ◌+◌, ◌*◌, ◌/◌, ◌%◌, length, refl, sym, ap, subst, ◌∙◌, arith}
 use Rattle.std.specs.Prelude.{slice_index_or}
 use Rattle.std.specs.Fn.{FnReturns}
-use Rattle.ix_interleave.specs.Shares.{IsShare}
-use Rattle.ix_interleave.proofs.Sharing.{each-more, number-in}
-use Rattle.ix_interleave.proofs.interleaved.map_interleaved.Goals as goal
+use Rattle.ix_store.specs.Shares.{IsShare}
+use Rattle.ix_store.proofs.Sharing.{each-more, number-in}
+use Rattle.ix_store.proofs.interleaved.map_interleaved.Goals as goal
 
 pub loop-number-init : goal.loop-number-init
 loop-number-init g c = (ap length c.in_ok-found.ensures.items, λ i d less. absurd (omega (arith, less)))
