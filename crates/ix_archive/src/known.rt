@@ -7,8 +7,7 @@ ghost use Rattle.ix_archive.specs.KnownPlaces.{IsKnownIn, IsPutIf, AreAnswers, I
 use crate::archive::is_sound;
 use ix_check::verdict_in;
 use ix_cid::Cid;
-use ix_store::map_interleaved;
-use ix_store::{PlaceSet, Store};
+use ix_store::{PlaceSet, Store, map_interleaved};
 use std::alloc::{AllocError, Global};
 use std::thread::Threads;
 

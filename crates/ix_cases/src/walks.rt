@@ -7,7 +7,6 @@ use ix_case_formats::cids::{cids_of, hex_of_cids};
 use ix_case_formats::selectors::selector_of;
 use ix_case_formats::texts::two_words;
 use ix_check::{Check, ShaCheck, Verdict};
-use ix_lists::ListWalk;
 use ix_store::Store;
 use ix_walk::{Job, JobFault, Visit, Walk, WalkStop};
 use std::alloc::{AllocError, Global};
@@ -83,27 +82,10 @@ pub fn walk_once(alloc: Global, store: &Store, input: &str) -> Result<String> {
     }
 }
 
-// The same of a job and its number, which a walk by lists has to give too.
+// The same of a job and its number.
 fn text_of_numbered(alloc: Global, store: &Store, job: &Job, number: &str) -> Result<String> {
-    let number = number.parse::<u32>()?;
-    let mut walk = Walk::new(alloc, store, job, number)?;
-    let answer = text_of_walk(alloc, store, &mut walk)?;
-    let listed = text_of_list_walk(alloc, store, ListWalk::new(alloc, store, job, number)?)?;
-    ensure!(listed == answer, "a walk by lists has {listed}");
-    Ok(answer)
-}
-
-// The visits of a walk by lists, and the stop after them.
-fn text_of_list_walk(
-    alloc: Global,
-    store: &Store,
-    walk: ListWalk<'_>,
-) -> Result<String, AllocError> {
-    let mut answer = String::new(alloc);
-    for item in walk {
-        push_item(&mut answer, store, &item)?;
-    }
-    answer.as_str().trim_end().to_string(alloc)
+    let mut walk = Walk::new(alloc, store, job, number.parse::<u32>()?)?;
+    text_of_walk(alloc, store, &mut walk)
 }
 
 // The visits of a walk, and the stop after them.

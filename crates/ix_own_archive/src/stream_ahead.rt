@@ -7,8 +7,7 @@ ghost use Rattle.ix_own_archive.specs.declared.stream_ahead.Judged.{Judged};
 
 use ix_car::read_section;
 use ix_cid::read_varint;
-use ix_store::map_interleaved;
-use ix_store::verdict_on;
+use ix_store::{map_interleaved, verdict_on};
 use ix_verdict::Verdict;
 use std::alloc::{AllocError, Global};
 use std::num::NonZeroUsize;

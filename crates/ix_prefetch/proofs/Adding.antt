@@ -17,7 +17,7 @@ use Rattle.ix_walk.specs.Visits.{is_malformed}
 use Rattle.ix_walk.specs.Walking.{waiting, links_inside, is_barren}
 use Rattle.ix_walk.proofs.Starts.{followed}
 use Rattle.ix_walk.proofs.Goes.{sound_stored, sound_valued, damaged_barren}
-use Rattle.ix_lists.specs.Expansion.{AreLinksIn}
+use Rattle.ix_walk.specs.Expansion.{AreLinksIn}
 use Rattle.ix_prefetch.specs.Reading.{IsBlockAt, IsReadAt}
 use Rattle.ix_prefetch.specs.Expansions.{ExpansionTable, IsMet, residual_in, HasNumber, IsLinkAt, IsPair, IsTableOf, link_at, table_of}
 use Rattle.ix_prefetch.specs.Link.{cid_at, pending_of}

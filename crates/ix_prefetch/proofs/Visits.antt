@@ -17,7 +17,7 @@ use Rattle.ix_walk.specs.WalkLeft.{GivesNext}
 use Rattle.ix_walk.proofs.Reached.{all_append, all_inside}
 use Rattle.ix_walk.proofs.Starts.{IsFollowed, expanded_at_start, arrives_all}
 use Rattle.ix_walk.proofs.Takes.{visit_with, deeper}
-use Rattle.ix_lists.specs.Expansion.{IsBlock}
+use Rattle.ix_walk.specs.Expansion.{IsBlock}
 use Rattle.ix_prefetch.specs.declared.link.Pair.{Pair}
 use Rattle.ix_prefetch.specs.declared.state.Next.{Next}
 use Rattle.ix_prefetch.specs.declared.state.TableState.{TableState}

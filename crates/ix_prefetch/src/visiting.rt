@@ -8,7 +8,7 @@ ghost use Rattle.ix_walk.specs.Walking.{waiting, is_barren};
 ghost use Rattle.ix_prefetch.specs.Link.{cid_at, IsHashedAt};
 ghost use Rattle.ix_prefetch.specs.Expansions.{residual_in};
 ghost use Rattle.ix_prefetch.specs.TableState.{IsWithin, IsNext, next_pending, IsVisited};
-ghost use Rattle.ix_lists.specs.Expansion.{IsBlock};
+ghost use Rattle.ix_walk.specs.Expansion.{IsBlock};
 ghost use Rattle.ix_prefetch.specs.Visiting.{IsUsable, EntersList, IsVisitAt, PutsInside};
 
 use crate::expansions::Expansions;
@@ -17,10 +17,9 @@ use crate::next_link::{put_links, put_list};
 use crate::reading::read_stored;
 use crate::state::{ListLeft, Next, TableState};
 use ix_cid::{Cid, CidRef};
-use ix_lists::expand;
 use ix_selector::Residual;
 use ix_store::{Cursor, Store};
-use ix_walk::{PendingLink, Visit, VisitedSet, bytes_to_expand, read_block};
+use ix_walk::{PendingLink, Visit, VisitedSet, bytes_to_expand, expand, read_block};
 use std::alloc::{AllocError, Global};
 
 /// A walk over a table: the table, the number of the job, and that of the visit.

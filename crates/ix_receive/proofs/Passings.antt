@@ -17,7 +17,7 @@ use Rattle.ix_walk.specs.declared.subtree.PendingLink.{PendingLink}
 use Rattle.ix_check.specs.Verdict.{verdict_of}
 use Rattle.ix_walk.specs.JobMeaning.{JobMeaning}
 use Rattle.ix_walk.specs.Walking.{Going, data_inside, links_inside, root_link}
-use Rattle.ix_lists.specs.Waiting.{all_waiting}
+use Rattle.ix_receive.specs.Waiting.{all_waiting}
 use Rattle.ix_receive.specs.declared.allow_missing.AllowMissing.{AllowMissing}
 use Rattle.ix_receive.specs.declared.traversal.Traversal.{Traversal}
 use Rattle.ix_receive.specs.declared.traversal.Skips.{Skips}

@@ -29,7 +29,7 @@ use Rattle.ix_walk.proofs.Firsts.{In}
 use Rattle.ix_walk.proofs.Links.{cid_of, all-append}
 use Rattle.ix_walk.proofs.Reaches.{contains-in, in-contains}
 use Rattle.ix_walk.proofs.Starts.{IsFollowed}
-use Rattle.ix_lists.specs.Waiting.{all_waiting, IsNextLink}
+use Rattle.ix_receive.specs.Waiting.{all_waiting, IsNextLink}
 use Rattle.ix_archive.specs.Archive.{is_sound}
 use Rattle.ix_archive.specs.Laws.{once}
 use Rattle.ix_receive.specs.declared.allow_missing.AllowMissing.{AllowMissing}

@@ -7,3 +7,4 @@ pub mod Base
 pub mod Passing
 pub mod Roots
 pub mod Reception
+pub mod Waiting

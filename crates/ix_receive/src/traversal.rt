@@ -1,16 +1,15 @@
 //! A traversal by lists over sections that grow, whose state borrows the job alone.
 
 ghost use Rattle.std.specs.Prelude.{◌≡◌, ◌+◌, ◌<◌, ◌^◌, map, option_map, IfOk, IfSome, OnOk};
-ghost use Rattle.ix_lists.specs.Waiting.{IsPutBefore, IsNextLink};
+ghost use Rattle.ix_receive.specs.Waiting.{IsPutBefore, IsNextLink};
 ghost use Rattle.ix_receive.specs.Base.{HaveSound, store_of};
 ghost use Rattle.ix_receive.specs.Traversal.{as_pending, Expands};
 
 use crate::request::Request;
 use crate::sections::Sections;
 use ix_cid::Cid;
-use ix_lists::expand;
 use ix_selector::Residual;
-use ix_walk::PendingLink;
+use ix_walk::{PendingLink, expand};
 use std::alloc::{AllocError, Global};
 use std::collections::BTreeSet;
 

@@ -1,3 +1,4 @@
+mod Expanding
 pub mod Names
 pub mod Tags
 pub mod Reached

@@ -1,3 +1,4 @@
+pub mod Expansion
 pub use Rattle.ix_cid.specs.Cid
 pub use Rattle.ix_cbor.specs.Data
 pub use Rattle.ix_cbor.specs.DataCode

@@ -1,4 +1,4 @@
-//! Jobs, and the walk.
+//! Jobs, and the walk; it re-exports `Store`.
 //!
 //! A job is a list of roots, a selector and a link budget. Its walk over a store returns the job's
 //! visits in preorder, root after root, one for each link and root that it visits, and then `Limit`
@@ -18,10 +18,12 @@
 //!
 //! The steps of a walk are public too, for traversals that keep something else between visits:
 //! `read_block`, `has_tag` and `bytes_to_expand` say what is expanded at a visit, and `enter_block`
-//! and `next_found` go over the links of a block.
+//! and `next_found` go over the links of a block. `expand` returns the links in a block that a residual
+//! enters, in order.
 #![tactic(auto)]
 
 mod descent;
+mod expansion;
 mod fault;
 mod job;
 pub mod law;
@@ -33,7 +35,9 @@ mod visiting;
 mod walk;
 
 pub use descent::next_found;
+pub use expansion::expand;
 pub use fault::{JobFault, WalkStop};
+pub use ix_store::Store;
 pub use job::{GREATEST_LIMIT, Job, LONGEST_NAME, MOST_ROOTS, is_name};
 pub use subtree::{Frontier, PendingLink};
 pub use visit::Visit;

@@ -2,7 +2,7 @@ use Rattle.std.proofs.Common.{◌≡◌, List, ℕ, map, sym, ◌∙◌, subst, 
 use Rattle.std.specs.Prelude.{Option, MatchOption, option_map}
 use Rattle.std.specs.List.{Contains}
 use Rattle.std.proofs.lemmas.Slice.Eq.{bytes_eq-Decides}
-use Rattle.ix_lists.specs.Waiting.{IsNextLink}
+use Rattle.ix_receive.specs.Waiting.{IsNextLink}
 use Rattle.ix_receive.specs.Base.{store_of}
 use Rattle.ix_receive.specs.declared.traversal.WaitingLink.{WaitingLink}
 use Rattle.ix_receive.specs.declared.traversal.Traversal.{Traversal}

@@ -1,6 +1,6 @@
 use Rattle.std.proofs.Common.{List, ℕ, map, sym, ◌∙◌, subst, refl, arith}
 use Rattle.std.specs.Prelude.{Option, MatchOption, option_map}
-use Rattle.ix_lists.specs.Waiting.{IsNextLink}
+use Rattle.ix_receive.specs.Waiting.{IsNextLink}
 use Rattle.ix_receive.specs.Base.{store_of}
 use Rattle.ix_receive.specs.declared.traversal.WaitingLink.{WaitingLink}
 use Rattle.ix_receive.specs.declared.traversal.Traversal.{Traversal}

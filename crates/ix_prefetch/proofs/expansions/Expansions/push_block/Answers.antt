@@ -5,7 +5,7 @@ use Rattle.ix_selector.specs.Residual.{Place}
 use Rattle.ix_store.specs.Store.{Blocks}
 use Rattle.ix_store.specs.Memo.{hash_matches}
 use Rattle.ix_walk.specs.declared.subtree.PendingLink.{PendingLink}
-use Rattle.ix_lists.specs.Expansion.{AreLinksIn}
+use Rattle.ix_walk.specs.Expansion.{AreLinksIn}
 use Rattle.ix_prefetch.specs.Expansions.{ExpansionTable, IsMet, residual_in}
 use Rattle.ix_prefetch.specs.Growing.{at_depth}
 use Rattle.std.proofs.lemmas.Result.{err_from_is_err_and}

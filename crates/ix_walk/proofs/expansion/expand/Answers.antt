@@ -3,8 +3,8 @@ use Rattle.std.specs.Prelude.{Option}
 use Rattle.ix_walk.specs.declared.subtree.PendingLink.{PendingLink}
 use Rattle.ix_walk.specs.Descent.{Finds}
 use Rattle.ix_walk.proofs.Starts.{frontier-begins}
-use Rattle.ix_lists.proofs.Expanding.{block_item, begins, goes_on, fewer, ends}
-use Rattle.ix_lists.proofs.expansion.expand.Goals as goal
+use Rattle.ix_walk.proofs.Expanding.{block_item, begins, goes_on, fewer, ends}
+use Rattle.ix_walk.proofs.expansion.expand.Goals as goal
 
 pub enter_block-requires-clause-block : goal.enter_block-requires-clause-block
 enter_block-requires-clause-block c = block_item c.args.block c.requires

@@ -10,7 +10,7 @@ use Rattle.ix_walk.specs.Descent.{IsItem, Finds}
 use Rattle.ix_walk.specs.Arriving.{Roots}
 use Rattle.ix_walk.proofs.Readings.{item_of_block}
 use Rattle.ix_walk.proofs.Stands.{subtrees_are}
-use Rattle.ix_lists.specs.Expansion.{IsBlock, AreLinksIn}
+use Rattle.ix_walk.specs.Expansion.{IsBlock, AreLinksIn}
 
 -- these links were found, and the others are left on the frontier
 pub record IsExpanding (block : List ℕ) (places : List Place) (depth : ℕ) (links : List PendingLink) (t : Frontier) : Type 0 where

@@ -1,11 +1,11 @@
 //! The links in a block.
 
 ghost use Rattle.std.specs.Prelude.{IfOk};
-ghost use Rattle.ix_lists.specs.Expansion.{IsBlock, AreLinksIn};
+ghost use Rattle.ix_walk.specs.Expansion.{IsBlock, AreLinksIn};
 
+use crate::{Frontier, PendingLink, enter_block, next_found};
 use ix_selector::Residual;
 use ix_store::Cursor;
-use ix_walk::{Frontier, PendingLink, enter_block, next_found};
 use std::alloc::{AllocError, Global};
 
 /// Returns the links in a block that a residual enters, in order, each at this depth.

@@ -1,5 +1,5 @@
-use Rattle.ix_lists.proofs.Expanding.{IsExpanding, links_to_come}
-use Rattle.ix_lists.proofs.expansion.expand.Given as goal
+use Rattle.ix_walk.proofs.Expanding.{IsExpanding, links_to_come}
+use Rattle.ix_walk.proofs.expansion.expand.Given as goal
 
 abbrev pub invariant-loop-links : goal.invariant-loop-links
 invariant-loop-links l = IsExpanding l.fn.block l.fn.residual l.fn.depth l.links.items l.frontier

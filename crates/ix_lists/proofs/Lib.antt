@@ -1,2 +1,0 @@
-mod Expanding
-mod Waits

@@ -1,3 +1,0 @@
-pub mod Expansion
-pub mod Waiting
-pub mod ListWalk
