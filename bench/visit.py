@@ -21,7 +21,7 @@ PARTS = {
     "queue: put": r"try_put|push_as",
     "queue: take, lane: send": r"scope::entry|pop_as|try_send",
     "lane: receive": r"run_by|try_recv|collector|job_progress|ix_pipeline.*ring",
-    "write": r"ix_archive|ix_car",
+    "write": r"ix_car|ix_sections",
     "check": r"ix_check|ix_verdict|sha2|compress",
     "walk": r"ix_walk|ix_store|ix_cbor|ix_selector|ix_cid",
     "wait": r"yield|park|futex|sched|task_switch|syscall|backoff",

@@ -2,14 +2,14 @@
 use Rattle.std.proofs.Common.{◌≡◌, ◌<◌, ◌+◌, ℕ, ◌++◌, List, [], ◌∷◌, length, map, take, get_or, refl, sym, ap, ◌∙◌}
 use Rattle.std.proofs.lemmas.List.{map_more}
 use Rattle.ix_store.specs.Store.{Blocks, with_block}
-use Rattle.ix_car.specs.declared.fault.CarFault.{CarFault}
-use Rattle.ix_car.specs.declared.reader.sections.Section.{Section}
-use Rattle.ix_car.specs.Gives.{IsFaultOf}
-use Rattle.ix_car.specs.Reading.{blocks_of}
-use Rattle.ix_car.specs.SectionView.{section_of}
-use Rattle.ix_car.specs.Sections.{SectionMeaning, section_list, with_sections, first_of_each}
-use Rattle.ix_car.proofs.Sections.{FailsAs-along}
-use Rattle.ix_car.proofs.SectionLists.{blocks-of_sections}
+use Rattle.ix_sections.specs.declared.fault.CarFault.{CarFault}
+use Rattle.ix_sections.specs.declared.reader.sections.Section.{Section}
+use Rattle.ix_sections.specs.Gives.{IsFaultOf}
+use Rattle.ix_sections.specs.Reading.{blocks_of}
+use Rattle.ix_sections.specs.SectionView.{section_of}
+use Rattle.ix_sections.specs.Sections.{SectionMeaning, section_list, with_sections, first_of_each}
+use Rattle.ix_sections.proofs.Sections.{FailsAs-along}
+use Rattle.ix_sections.proofs.SectionLists.{blocks-of_sections}
 
 -- the loop's step
 pub sections-more : (store before after : Blocks) (sections : List Section) (i : ℕ) (s : Section) → i < length sections → s ≡ get_or sections i s

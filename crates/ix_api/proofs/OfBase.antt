@@ -5,14 +5,14 @@ use Rattle.std.specs.declared.alloc.AllocError.{AllocError}
 use Rattle.ix_store.specs.Store.{Blocks}
 use Rattle.ix_store.specs.declared.places.PlaceSet.{PlaceSet}
 use Rattle.ix_walk.specs.JobMeaning.{JobMeaning}
-use Rattle.ix_archive.specs.declared.sink.Delivery.{Delivery}
-use Rattle.ix_archive.specs.Archive.{known_at, archive_without, difference_of}
-use Rattle.ix_archive.specs.ArchiveMeaning.{IsProperPrefix, HasWrittenWithout}
-use Rattle.ix_archive.specs.Archived.{IsBeginning}
-use Rattle.ix_archive.specs.Kept.{kept}
-use Rattle.ix_archive.specs.KnownPlaces.{known_by, IsKnownIn}
-use Rattle.ix_archive.specs.Verified.{verified}
-use Rattle.ix_archive.proofs.KnownBlocks.{places-of-base}
+use Rattle.ix_car.specs.declared.sink.Delivery.{Delivery}
+use Rattle.ix_car.specs.Archive.{known_at, archive_without, difference_of}
+use Rattle.ix_car.specs.ArchiveMeaning.{IsProperPrefix, HasWrittenWithout}
+use Rattle.ix_car.specs.Archived.{IsBeginning}
+use Rattle.ix_car.specs.Kept.{kept}
+use Rattle.ix_car.specs.KnownPlaces.{known_by, IsKnownIn}
+use Rattle.ix_car.specs.Verified.{verified}
+use Rattle.ix_car.proofs.KnownBlocks.{places-of-base}
 use Rattle.ix_jobs.specs.declared.results.JobResult.{JobResult}
 use Rattle.ix_run.specs.Run.{IsRun}
 use Rattle.ix_api.specs.declared.exported.Exported.{Exported}

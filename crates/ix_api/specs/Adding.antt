@@ -2,8 +2,8 @@
 use Rattle.std.specs.Prelude.{◌≡◌, ℕ, true, false, List, [], ◌∷◌, ◌++◌, take, Result, Ok, Err}
 use Rattle.ix_cid.specs.Cid.{IsCid}
 use Rattle.ix_store.specs.Store.{Blocks, has_cid}
-use Rattle.ix_car.specs.Reading.{Fault}
-use Rattle.ix_car.specs.Sections.{SectionMeaning, section_list, with_sections}
+use Rattle.ix_sections.specs.Reading.{Fault}
+use Rattle.ix_sections.specs.Sections.{SectionMeaning, section_list, with_sections}
 use Rattle.ix_api.specs.declared.failure.Failure.{Failure}
 use Rattle.ix_api.specs.declared.failure.Failure.TheVariants as failures
 use Rattle.ix_api.specs.declared.input.Added.{Added}

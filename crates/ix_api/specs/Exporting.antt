@@ -3,9 +3,9 @@ use Rattle.std.specs.Prelude.{◌≡◌, ℕ, [], ◌∷◌, Some}
 use Rattle.std.specs.Global.{Vec}
 use Rattle.ix_store.specs.Store.{Blocks}
 use Rattle.ix_walk.specs.JobMeaning.{JobMeaning}
-use Rattle.ix_archive.specs.declared.sink.End.TheVariants.{Done}
-use Rattle.ix_archive.specs.Archive.{Known, difference_of}
-use Rattle.ix_archive.specs.Archived.{IsBeginning}
+use Rattle.ix_car.specs.declared.sink.End.TheVariants.{Done}
+use Rattle.ix_car.specs.Archive.{Known, difference_of}
+use Rattle.ix_car.specs.Archived.{IsBeginning}
 use Rattle.ix_jobs.specs.declared.results.JobResult.{JobResult}
 use Rattle.ix_jobs.specs.Report.{report_of}
 use Rattle.ix_run.specs.Run.{IsRun}

@@ -3,9 +3,9 @@ use Rattle.std.specs.Prelude.{◌≡◌, ◌≢◌, ◌⊎◌, ℕ, List, [], �
 use Rattle.ix_walk.specs.JobMeaning.{JobMeaning}
 use Rattle.ix_walk.specs.declared.fault.JobFault.{JobFault}
 use Rattle.ix_walk.specs.declared.fault.JobFault.TheVariants as job
-use Rattle.ix_car.specs.declared.fault.CarFault.{CarFault}
-use Rattle.ix_car.specs.Reading.{blocks_of}
-use Rattle.ix_car.specs.Gives as car
+use Rattle.ix_sections.specs.declared.fault.CarFault.{CarFault}
+use Rattle.ix_sections.specs.Reading.{blocks_of}
+use Rattle.ix_sections.specs.Gives as car
 use Rattle.ix_jobs.specs.declared.fault.JobsFault.{JobsFault}
 use Rattle.ix_jobs.specs.Jobs.{jobs_of}
 use Rattle.ix_jobs.specs.Gives as jobs

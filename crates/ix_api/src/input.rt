@@ -1,20 +1,20 @@
 //! Reads blocks, jobs and selectors.
 
 ghost use Rattle.std.specs.Prelude.{◌≡◌, ℕ, List, IfErr, OnErr, OnOk, ◌++◌, ◌∷◌, [], map, take, Ok, IfOk};
-ghost use Rattle.ix_car.specs.Reading.{blocks_after, blocks_of};
-ghost use Rattle.ix_car.specs.Sections.{with_sections};
-ghost use Rattle.ix_car.specs.SectionView.{section_of};
-ghost use Rattle.ix_car.specs.Gives.{IsFaultOf};
+ghost use Rattle.ix_sections.specs.Reading.{blocks_after, blocks_of};
+ghost use Rattle.ix_sections.specs.Sections.{with_sections};
+ghost use Rattle.ix_sections.specs.SectionView.{section_of};
+ghost use Rattle.ix_sections.specs.Gives.{IsFaultOf};
 ghost use Rattle.ix_jobs.specs.Jobs.{jobs_of};
 ghost use Rattle.ix_selector_json.specs.Notation.{IsSelectorHex};
 ghost use Rattle.ix_api.specs.Failures.{IsStoreFailure, IsJobFailure, IsNotOneFailure, IsSelectorFailure};
 ghost use Rattle.ix_api.specs.Adding.{HasAdded, IsLeftBy};
 
 use crate::failure::Failure;
-use ix_car::{CarFault, CarKind, Section, read_car, read_sections};
 use ix_cid::{Cid, CidFault};
 use ix_jobs::{JobErrorKind, read_jobs};
 use ix_run::RunFault;
+use ix_sections::{CarFault, CarKind, Section, read_car, read_sections};
 use ix_selector_json::{NotationFault, hex_of_json};
 use ix_store::Store;
 use ix_walk::Job;

@@ -5,8 +5,8 @@ use Rattle.std.proofs.lemmas.Slice.Eq.{bytes_eq-Decides}
 use Rattle.ix_verdict.specs.Verdict.{verdict_with}
 use Rattle.ix_store.specs.Store.{Blocks, position_of}
 use Rattle.ix_store.proofs.Blocks.{block_at}
-use Rattle.ix_archive.specs.Archive.{is_sound}
-use Rattle.ix_archive.specs.KnownPlaces.{knows}
+use Rattle.ix_car.specs.Archive.{is_sound}
+use Rattle.ix_car.specs.KnownPlaces.{knows}
 
 -- if a copy is the very block of the store, both are sound or neither is
 pub known-copy : (store : Blocks) (place : ℕ) (c stored block : List ℕ) → position_of store c ≡ Some place → slice_get (map (λ e. e.1) store) place ≡ Some stored → bytes_eq stored block ≡ true

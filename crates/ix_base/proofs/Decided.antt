@@ -14,8 +14,8 @@ use Rattle.ix_store.specs.declared.places.PlaceSet.{PlaceSet}
 use Rattle.ix_store.specs.PlaceSet.{contains_place, HasOneMoreThan}
 use Rattle.ix_store.proofs.Gathered.{with_blocks-push}
 use Rattle.ix_store.proofs.Stores.{pair-there, same-there}
-use Rattle.ix_archive.specs.Archive.{is_sound}
-use Rattle.ix_archive.specs.KnownPlaces.{IsPutIf}
+use Rattle.ix_car.specs.Archive.{is_sound}
+use Rattle.ix_car.specs.KnownPlaces.{IsPutIf}
 use Rattle.ix_base.specs.declared.finding.Finding.{Finding}
 use Rattle.ix_base.specs.declared.finding.Finding.TheVariants.{Nothing, CopyOf, NoMemory}
 use Rattle.ix_base.specs.declared.places.Places.{Places}

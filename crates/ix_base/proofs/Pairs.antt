@@ -10,8 +10,8 @@ use Rattle.ix_verdict.specs.Verdict.{has_codec, is_no_data, verdict_by, verdict_
 use Rattle.ix_store.specs.Store.{Blocks, has_cid, block_of, with_blocks}
 use Rattle.ix_store.proofs.Blocks.{none_behind}
 use Rattle.ix_store.proofs.Stores.{position-none}
-use Rattle.ix_archive.specs.Archive.{is_sound}
-use Rattle.ix_archive.specs.KnownPlaces.{knows}
+use Rattle.ix_car.specs.Archive.{is_sound}
+use Rattle.ix_car.specs.KnownPlaces.{knows}
 
 -- a CID that isn't that of the last one
 pub has-other : (es : Blocks) (p : List ℕ × List ℕ) (c : List ℕ) → bytes_eq p.0 c ≡ false → has_cid (es ++ p ∷ []) c ≡ has_cid es c

@@ -6,13 +6,13 @@ use Rattle.std.specs.Global.{Vec}
 use Rattle.std.proofs.lemmas.List.{map_push}
 use Rattle.ix_store.specs.Store.{Blocks, with_blocks}
 use Rattle.ix_store.proofs.Gathered.{with_blocks-push}
-use Rattle.ix_car.specs.declared.fault.CarKind.{CarKind}
-use Rattle.ix_car.specs.declared.fault.CarFault.{CarFault}
-use Rattle.ix_car.specs.declared.reader.sections.Section.{Section}
-use Rattle.ix_car.specs.Gives.{FailsAs}
-use Rattle.ix_car.specs.Reading.{Fault, section_at, sections_at}
-use Rattle.ix_car.proofs.Sections.{sections_at-enough, GoesOn, GoesOn-first, GoesOn-more, GoesOn-fails, GoesOn-last}
-use Rattle.ix_car.proofs.SectionLists.{FailsAs-of}
+use Rattle.ix_sections.specs.declared.fault.CarKind.{CarKind}
+use Rattle.ix_sections.specs.declared.fault.CarFault.{CarFault}
+use Rattle.ix_sections.specs.declared.reader.sections.Section.{Section}
+use Rattle.ix_sections.specs.Gives.{FailsAs}
+use Rattle.ix_sections.specs.Reading.{Fault, section_at, sections_at}
+use Rattle.ix_sections.proofs.Sections.{sections_at-enough, GoesOn, GoesOn-first, GoesOn-more, GoesOn-fails, GoesOn-last}
+use Rattle.ix_sections.proofs.SectionLists.{FailsAs-of}
 use Rattle.ix_base.specs.declared.places.Places.{Places}
 use Rattle.ix_base.specs.Places.{ArePlacesOf, AddsBlocks}
 use Rattle.ix_base.specs.Findings.{pair_of}

@@ -1,9 +1,9 @@
 -- The base of a receiver: which blocks of a store it has, file by file.
 use Rattle.std.specs.Prelude.{◌≡◌, ℕ, List, IsOkAnd}
 use Rattle.ix_store.specs.Store.{Blocks}
-use Rattle.ix_car.specs.declared.fault.CarFault.{CarFault}
-use Rattle.ix_car.specs.Gives.{IsFaultOf}
-use Rattle.ix_car.specs.Reading.{blocks_after}
+use Rattle.ix_sections.specs.declared.fault.CarFault.{CarFault}
+use Rattle.ix_sections.specs.Gives.{IsFaultOf}
+use Rattle.ix_sections.specs.Reading.{blocks_after}
 use Rattle.ix_base.specs.declared.places.Places.{Places}
 use Rattle.ix_base.specs.Places.{ArePlacesOf}
 

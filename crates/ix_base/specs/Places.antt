@@ -4,7 +4,7 @@ use Rattle.std.specs.Bool.{MatchBool}
 use Rattle.ix_store.specs.Store.{Blocks, has_cid, position_of, with_blocks}
 use Rattle.ix_store.specs.declared.places.PlaceSet.{PlaceSet}
 use Rattle.ix_store.specs.PlaceSet.{contains_place, HasOneMoreThan}
-use Rattle.ix_archive.specs.KnownPlaces.{IsKnownIn, IsPutIf}
+use Rattle.ix_car.specs.KnownPlaces.{IsKnownIn, IsPutIf}
 use Rattle.ix_base.specs.declared.places.Places.{Places}
 
 -- the positions of those blocks of a store under whose CID a base has a block, sound or not

@@ -1,12 +1,12 @@
 //! The base of a receiver.
 
 ghost use Rattle.std.specs.Prelude.{◌≡◌, ◌+◌, ◌^◌, ◌<◌, [], IfOk, IfErr};
-ghost use Rattle.ix_car.specs.Payload.{IsWithin, bytes_of, bytes_to};
-ghost use Rattle.ix_archive.specs.KnownPlaces.{IsKnownIn};
+ghost use Rattle.ix_sections.specs.Payload.{IsWithin, bytes_of, bytes_to};
+ghost use Rattle.ix_car.specs.KnownPlaces.{IsKnownIn};
 ghost use Rattle.ix_base.specs.Base.{IsOfBase, AddsFile, IsFileFault};
 
 use crate::places::Places;
-use ix_car::{CarFault, Payload, read_header};
+use ix_sections::{CarFault, Payload, read_header};
 use ix_store::{PlaceSet, Store};
 use std::alloc::Global;
 use std::marker::Model;

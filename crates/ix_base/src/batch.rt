@@ -1,10 +1,10 @@
 //! The sections of a base's file, a batch at a time.
 
 ghost use Rattle.std.specs.Prelude.{◌≡◌, ◌<◌, ◌≤◌, length, IfOk, IfErr};
-ghost use Rattle.ix_car.specs.declared.fault.CarKind.TheVariants.{Memory};
+ghost use Rattle.ix_sections.specs.declared.fault.CarKind.TheVariants.{Memory};
 ghost use Rattle.ix_base.specs.Batches.{IsBatchAt, IsFaultIn};
 
-use ix_car::{CarFault, CarKind, Section, read_section};
+use ix_sections::{CarFault, CarKind, Section, read_section};
 
 // How many sections are read before they are looked up: so a file has no list of all of them.
 const BATCH: usize = 65_536;

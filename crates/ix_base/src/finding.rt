@@ -3,13 +3,13 @@
 ghost use Rattle.std.specs.Prelude.{◌≡◌, ◌<◌, ℕ, Some, length, map, slice_index_or, IfOk};
 ghost use Rattle.ix_store.specs.Store.{position_of};
 ghost use Rattle.ix_store.specs.Sound.{verdict_of};
-ghost use Rattle.ix_archive.specs.Archive.{is_sound};
+ghost use Rattle.ix_car.specs.Archive.{is_sound};
 ghost use Rattle.ix_check.specs.Verdict.{verdict_of as stored_verdict};
 ghost use Rattle.ix_base.specs.Findings.{pair_of, IsFinding, IsFindingAt};
 
-use ix_car::Section;
 use ix_cid::Cid;
 use ix_cid::code::DAG_CBOR;
+use ix_sections::Section;
 use ix_store::{PlaceSet, Store, has_fault, map_interleaved, verdict_on};
 use ix_verdict::{Needed, Verdict, bytes_needed};
 use std::alloc::{AllocError, Global};

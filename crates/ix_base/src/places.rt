@@ -1,14 +1,14 @@
 //! The positions in a store that the sections of a base decide.
 
 ghost use Rattle.std.specs.Prelude.{◌≤◌, [], length, map, Some, IfErr, OnOk};
-ghost use Rattle.ix_archive.specs.KnownPlaces.{IsPutIf};
+ghost use Rattle.ix_car.specs.KnownPlaces.{IsPutIf};
 ghost use Rattle.ix_base.specs.Places.{ArePlacesOf, AddsBlocks, IsDecided};
 ghost use Rattle.ix_base.specs.Findings.{pair_of, TakesIn, HasAllOf};
 ghost use Rattle.ix_base.specs.Batches.{AddsSections, IsFaultIn};
 
 use crate::batch::{no_memory, read_batch};
 use crate::finding::{Finding, Lookup, findings_of};
-use ix_car::{CarFault, Section};
+use ix_sections::{CarFault, Section};
 use ix_store::{PlaceSet, Store};
 use std::alloc::{AllocError, Global};
 use std::thread::Threads;

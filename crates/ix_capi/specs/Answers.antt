@@ -5,7 +5,7 @@ use Rattle.std.specs.declared.sync.Arc.{Arc}
 use Rattle.std.specs.Arc.{arc_value}
 use Rattle.std.specs.declared.alloc.AllocError.{AllocError}
 use Rattle.ix_store.specs.Store.{Blocks}
-use Rattle.ix_car.specs.Reading.{blocks_after}
+use Rattle.ix_sections.specs.Reading.{blocks_after}
 use Rattle.ix_jobs.specs.Jobs.{jobs_of}
 use Rattle.ix_selector_json.specs.Notation.{IsSelectorHex}
 use Rattle.ix_api.specs.declared.failure.Failure.{Failure}

@@ -40,7 +40,7 @@ use crate::address::address_of;
 use crate::handle::Handle;
 use crate::status::Status;
 use ix_api::{Exported, Object, Piece};
-use ix_archive::{End, Skip};
+use ix_car::{End, Skip};
 use ix_check::Verdict;
 use std::alloc::Global;
 

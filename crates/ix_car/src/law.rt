@@ -1,29 +1,89 @@
-//! The laws of files' blocks.
+//! Laws of cutting and of archives.
 
-ghost use Rattle.std.specs.Prelude.{◌≡◌, ℕ, List, []};
-ghost use Rattle.ix_store.specs.Store.{Blocks};
-ghost use Rattle.ix_store.specs.Sound.{AreSound, sound_copies, later_count};
-ghost use Rattle.ix_car.specs.Copies.{copies_of};
-ghost use Rattle.ix_car.specs.Reading.{blocks_after, blocks_of};
-ghost use Rattle.ix_car.specs.Sections.{section_list, SectionMeaning, first_of_each, with_first_of_each, with_sections};
+ghost use Rattle.std.specs.Prelude.{◌≡◌, []};
+ghost use Rattle.ix_car.specs.Kept.{kept};
+ghost use Rattle.ix_car.specs.Laws.{KeptIsVerified, KeptBeginsVerified, FirstIsKept};
+ghost use Rattle.ix_car.specs.Laws.{GoodIsSound, OnceIsUncut, OnceIsWithin, OnceArchivesTheSame};
+ghost use Rattle.ix_car.specs.Laws.{OnceArchivesTheEnded, OnceBeginsTheEnded, OnceArchivesTheReached};
+ghost use Rattle.ix_car.specs.Laws.{FaithfulIsArchived, HasWholeArchive, HasBegunArchive, DifferenceIsTheRest, PlacesAreOfTheBase};
+ghost use Rattle.ix_car.specs.Laws.{DifferenceIsOfPairs, DifferenceThenBaseRestores, BaseThenDifferenceRestores};
 
-/// States that the blocks of a file are those of its sections, the first of each CID, and that both
-/// have the same errors.
-pub fn blocks_are_the_first_of_each_cid()
-    ensures { (b : List ℕ) → blocks_of b ≡ first_of_each (section_list b) }
+use ix_selector::law;
+use std::io::Write;
+
+/// States that what is kept of a job's visits, cut by depth, is the traversal that expands only
+/// what has a good verdict.
+pub fn cutting_is_never_going_in()
+    ensures whole { KeptIsVerified }
+    ensures beginning { KeptBeginsVerified }
 {}
 
-/// States that reading one file more adds the blocks of its sections, the first of each CID, in their
-/// order: the blocks of several files are those of their sections put end to end.
-pub fn blocks_of_files_are_end_to_end()
-    ensures { (store : Blocks) (b : List ℕ) → blocks_after store b ≡ with_first_of_each store (section_list b) }
+/// States that the first delivery is kept. What is kept after it is what is kept of the rest if it
+/// is good, and else what is kept of the rest without its longest prefix of deeper deliveries.
+pub fn kept_by_its_first()
+    ensures none { kept [] ≡ [] }
+    ensures first { FirstIsKept }
 {}
 
-/// States that preferring sound copies changes nothing if each copy is sound: the blocks are those of the
-/// sections, the first of each CID, and none is a later copy.
-pub fn sound_copies_are_the_first_if_all_are_sound()
-    ensures same { (sections : List SectionMeaning) → AreSound (copies_of sections)
-        → sound_copies (copies_of sections) ≡ with_sections [] sections }
-    ensures none_later { (sections : List SectionMeaning) → AreSound (copies_of sections)
-        → later_count (copies_of sections) ≡ 0 }
+/// States what the archive of a job with link-visit-once is. Such a job expands a CID once with
+/// each residual, and only if its block is sound, so nothing of its visits is cut.
+///
+/// If the job is within its limit at every link, it is within it with link-visit-once too, and
+/// writes the same archive. If it is so with link-visit-once alone, that holds if the verified
+/// traversal ends. Whatever the limit, its first visits write a beginning of the archive of that
+/// traversal, if it ends. Also if CIDs lead back to themselves, so that it doesn't end, the
+/// sections are those of the sound blocks that can be reached.
+pub fn going_in_once_writes_the_same()
+    ensures sound { GoodIsSound }
+    ensures uncut { OnceIsUncut }
+    ensures limit { OnceIsWithin }
+    ensures whole { OnceArchivesTheSame }
+    ensures ends { OnceArchivesTheEnded }
+    ensures beginning { OnceBeginsTheEnded }
+    ensures sections { OnceArchivesTheReached }
+{
+    law::residual_is_the_rest();
+}
+
+/// States that the archive of a sink that was faithful to its job is that of the job if it was
+/// done, and else a beginning of it.
+pub fn faithful_is_archived()
+    ensures { FaithfulIsArchived }
+{}
+
+/// States what an archive's writer has in the end, if it had no bytes at first: an archive whose
+/// guarantee held for a store and a job, and whose calls are faithful to the job, has written the
+/// archive of the job, without the sections of known CIDs, if it was done, and a beginning of it
+/// whatever the end.
+pub fn archive_is_of_its_job<W: Write>()
+    ensures whole { HasWholeArchive W.contents }
+    ensures beginning { HasBegunArchive W.contents }
+{}
+
+/// States what leaving out known CIDs leaves: the sections of the whole archive whose CID isn't known,
+/// in their order.
+pub fn difference_is_the_rest()
+    ensures { DifferenceIsTheRest }
+{}
+
+/// States what known positions in a store stand for, if they are those of the blocks under whose CIDs a
+/// base has a sound one: the archive leaves out, and counts, the CIDs that the base knows.
+pub fn known_places_are_of_the_base()
+    ensures { PlacesAreOfTheBase }
+{}
+
+/// States what a base and a difference restore. The difference of a job is its archive without the
+/// sections of the CIDs under which the first copy in the base is sound. The base's other first copies
+/// may be anything.
+///
+/// If the job is within its limit over a store and skips nothing, it is so too over the first copies
+/// in the difference followed by the base, and its archive is the same, byte for byte. The base
+/// followed by the difference does the same if the first copies in the base are all sound.
+///
+/// A premise is that the base and the store have the same first copy under each CID for which both
+/// have a sound one: no proof can exclude two blocks with one digest.
+pub fn base_and_difference_restore()
+    ensures pairs { DifferenceIsOfPairs }
+    ensures difference_first { DifferenceThenBaseRestores }
+    ensures base_first { BaseThenDifferenceRestores }
 {}

@@ -1,24 +1,30 @@
-//! CARv1 files.
+//! Sinks and archives. It re-exports `read_car` and its errors of `ix_sections`.
 //!
-//! A CARv1 file is read as its blocks or its sections, or rejected with the first error and its
-//! offset. To write one, its header and the head of each section are made here.
+//! An archive is the sink of one job: it writes the header at once, then each sound block that is
+//! delivered, once, and leaves out what is below a CID that isn't good. What it wrote, counted and
+//! skipped is what its deliveries call for.
 //!
 //! ```rust
-//! let store = read_car(alloc, file)?;
-//! println!(rt; "{} blocks", store.len())?;
+//! let mut archive = Archive::new(alloc, &store, &job, Vec::new(alloc))?;
+//! let mut check = ShaCheck::new(alloc);
+//! for item in Walk::new(alloc, &store, &job, 0)? {
+//!     let visit = item?;
+//!     let verdict = check.check(alloc, &store, &visit)?;
+//!     archive.deliver(alloc, visit, verdict)?;
+//! }
+//! archive.close(End::Done);
+//! let (bytes, skips, counts) = archive.into_parts();
 //! ```
 #![tactic(auto)]
 
+mod archive;
 mod fault;
+mod known;
 pub mod law;
-mod payload;
-mod reader;
-mod writer;
+mod sink;
 
-pub use fault::{CarFault, CarKind};
-pub use payload::{Payload, has_index, is_carv2, payload_of};
-pub use reader::{
-    BlockLoader, CarFile, Section, SoundLoader, load_car, load_car_by, load_shared_by, read_car,
-    read_header, read_section, read_sections,
-};
-pub use writer::{header_of, set_section_head, write_section, write_text};
+pub use archive::{Archive, Counts, Skip};
+pub use fault::{ArchiveNew, SinkFault};
+pub use ix_sections::{CarFault, CarKind, read_car};
+pub use known::{known_places_alone, knows};
+pub use sink::{Delivery, End, Sink};

@@ -2,7 +2,7 @@
 
 use crate::walks::{MATCHER, job_of};
 use anyhow::{Context, Error, Result, bail};
-use ix_archive::{Counts, End, Skip};
+use ix_car::{Counts, End, Skip};
 use ix_case_formats::cids::cid_of;
 use ix_case_formats::texts::{bytes_of_hex, two_words};
 use ix_check::Verdict;

@@ -1,12 +1,11 @@
 //! What a receiver has, and whether what it is sent is what it asked for.
 
-ghost use Rattle.ix_car.specs.Payload.{IsWithin};
+ghost use Rattle.ix_sections.specs.Payload.{IsWithin};
 
 use crate::stores::text_of_fault;
 use crate::walks::job_of_words;
 use anyhow::{Context, Error, Result, bail, ensure};
 use ix_base::Base;
-use ix_car::Payload;
 use ix_case_formats::cids::cid_of;
 use ix_case_formats::texts::{bytes_of_hex, two_words};
 use ix_own_archive::{
@@ -14,6 +13,7 @@ use ix_own_archive::{
     check_archive,
 };
 use ix_receive::Receiver;
+use ix_sections::Payload;
 use ix_store::{PlaceSet, Store};
 use ix_walk::Job;
 use std::alloc::{AllocError, Global};

@@ -2,9 +2,9 @@
 
 use crate::example::Example;
 use anyhow::{Error, Result, bail};
-use ix_car::{CarFault, read_car};
 use ix_case_formats::cids::cid_of;
 use ix_case_formats::texts::{bytes_of_hex, hex_of, two_words};
+use ix_sections::{CarFault, read_car};
 use ix_store::Store;
 use std::alloc::Global;
 

@@ -4,8 +4,8 @@ use Rattle.std.proofs.lemmas.Bool.Decides.{nat_tests}
 use Rattle.std.specs.Prelude.{Bool, true, false, not, cond, ◌&&◌, ◌||◌, ◌==◌, Option}
 use Rattle.std.specs.List.{list_any, filter}
 use Rattle.ix_walk.specs.JobMeaning.{JobMeaning}
-use Rattle.ix_archive.specs.declared.archive.Skip.{Skip}
-use Rattle.ix_archive.specs.declared.sink.End.{End}
+use Rattle.ix_car.specs.declared.archive.Skip.{Skip}
+use Rattle.ix_car.specs.declared.sink.End.{End}
 use Rattle.ix_jobs.specs.declared.missing.AllowMissing.{AllowMissing}
 use Rattle.ix_jobs.specs.declared.results.JobResult.{JobResult}
 use Rattle.ix_jobs.specs.Missing.{is_root}

@@ -2,9 +2,9 @@
 use Rattle.std.specs.Prelude.{◌≡◌, Bool, true, false, not, ◌&&◌, ◌==◌, List, length, String, Option, None, Some, Result, Ok, Err, IfErr}
 use Rattle.std.specs.List.{filter}
 use Rattle.std.specs.Global.{Global}
-use Rattle.ix_archive.specs.declared.archive.Skip.{Skip}
-use Rattle.ix_archive.specs.declared.sink.End.{End}
-use Rattle.ix_archive.specs.declared.sink.End.TheVariants as ends
+use Rattle.ix_car.specs.declared.archive.Skip.{Skip}
+use Rattle.ix_car.specs.declared.sink.End.{End}
+use Rattle.ix_car.specs.declared.sink.End.TheVariants as ends
 use Rattle.ix_walk.specs.JobMeaning.{JobMeaning}
 use Rattle.ix_jobs.specs.declared.missing.AllowMissing.{AllowMissing}
 use Rattle.ix_jobs.specs.declared.results.JobResult.{JobResult}

@@ -7,7 +7,7 @@ use crate::naming::NamingRule;
 use crate::output::{FileBuffer, Output};
 use crate::progress::Progress;
 use crate::write_errors::WriteErrors;
-use ix_archive::{End, Skip};
+use ix_car::{End, Skip};
 use ix_run::Observer;
 use ix_walk::Job;
 use std::alloc::{AllocError, Global};

@@ -7,9 +7,9 @@ ghost use Rattle.ix_cli_io.specs.Failure.{IsWordsOf, IsTooLarge, NamesFile, Want
 use crate::memory::available_memory;
 use crate::stop::{ErrorCode, Stop};
 use clap::error::ErrorKind as UsageKind;
-use ix_car::{CarFault, CarKind};
 use ix_jobs::{JobsFault, ListErrorKind, ListFault};
 use ix_run::{RunFault, fault_line};
+use ix_sections::{CarFault, CarKind};
 use ix_selector_json::NotationFault;
 use std::alloc::{AllocError, AllocFailed, Global};
 use std::io::{self, ErrorKind};

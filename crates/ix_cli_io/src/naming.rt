@@ -9,7 +9,7 @@ ghost use Rattle.ix_cli_io.specs.Naming.{counts, has_ended, NamesAsReported};
 
 use crate::outputs::job_path;
 use crate::write_errors::WriteErrors;
-use ix_archive::{End, Skip};
+use ix_car::{End, Skip};
 use ix_check::Verdict;
 use ix_jobs::{AllowMissing, JobResult, is_root};
 use ix_run::is_complete;

@@ -3,7 +3,7 @@
 ghost use Rattle.std.specs.Prelude.{◌≡◌};
 ghost use Rattle.ix_cli_io.specs.Progress.{is_shown};
 
-use ix_archive::{End, Skip};
+use ix_car::{End, Skip};
 use ix_run::Observer;
 use std::cell::Cell;
 use std::io::{self, Read};

@@ -5,7 +5,7 @@ ghost use Rattle.std.specs.Prelude.{◌≡◌, ◌+◌, vec_len, length, take, b
 use crate::fault::Failure;
 use crate::files::read_all;
 use crate::outputs::job_path;
-use ix_car::header_of;
+use ix_sections::header_of;
 use ix_walk::Job;
 use std::alloc::Global;
 use std::fs::{self, File};

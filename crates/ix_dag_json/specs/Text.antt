@@ -4,8 +4,6 @@ use Rattle.json.specs.Token.{Token}
 use Rattle.ix_cbor.specs.declared.fault.CborKind.TheVariants as kinds
 use Rattle.ix_cbor.specs.Data.{Data}
 use Rattle.ix_cbor.specs.Spelling.{Spells}
-use Rattle.ix_cbor.specs.declared.fault.CborFault.{CborFault}
-use Rattle.ix_cbor.specs.FirstFault.{FaultAt}
 use Rattle.ix_cbor.specs.Gives.{IsFirstOf}
 use Rattle.ix_dag_json.specs.declared.output.Layout.{Layout}
 use Rattle.ix_dag_json.specs.declared.fault.DagJsonFault.{DagJsonFault}
@@ -31,23 +29,8 @@ IsBlock b = (d : Data) × Spells b d
 abbrev pub IsBlockText : Layout → List ℕ → List ℕ → Type 0
 IsBlockText layout b s = (d : Data) × Spells b d × IsTextOf layout d s
 
--- the bytes begin with such a block
-abbrev pub IsItemText : Layout → List ℕ → List ℕ → Type 0
-IsItemText layout b s = (front : List ℕ) × (rest : List ℕ) × (b ≡ front ++ rest) × IsBlockText layout front s
-
 -- the bytes are no block, and this is their first error; or DAG-JSON can't express a part; or memory ran out
 abbrev pub IsBlockRefused : List ℕ → DagJsonFault → Type 0
 IsBlockRefused b (Block fault) = IsFirstOf b fault × (fault.kind ≢ kinds.Memory)
 IsBlockRefused b (Part lacking) = (d : Data) × Spells b d × IsPartOf d lacking
 IsBlockRefused b Memory = Unit {0}
-
--- the error is the first one of the item at the front, its place counted from there
-abbrev pub IsFirstOfItem : List ℕ → CborFault → Type 0
-IsFirstOfItem b fault = (fault.place ≤ length b) × FaultAt 512 b (record { kind = fault.kind; left = length b - fault.place })
-
--- the bytes begin with no item, and this is its first error; or they begin with a block of which DAG-JSON can't express a part; or
--- memory ran out
-abbrev pub IsItemRefused : List ℕ → DagJsonFault → Type 0
-IsItemRefused b (Block fault) = IsFirstOfItem b fault
-IsItemRefused b (Part lacking) = (front : List ℕ) × (rest : List ℕ) × (b ≡ front ++ rest) × IsBlockRefused front (Part lacking)
-IsItemRefused b Memory = Unit {0}

@@ -25,4 +25,4 @@ mod text;
 pub use fault::{DagJsonFault, Part, Step, Wrong};
 pub use hidden::escape_hidden;
 pub use output::Layout;
-pub use text::{text_of_block, text_of_bytes, text_of_item};
+pub use text::{text_of_block, text_of_bytes};

@@ -2,14 +2,14 @@
 
 ghost use Rattle.std.specs.Prelude.{◌≡◌, IfOk, IfErr, string_bytes};
 ghost use Rattle.ix_cbor.specs.Data.{bytes as bytes_data};
-ghost use Rattle.ix_dag_json.specs.Text.{IsBlock, IsTextOf, IsBlockText, IsItemText, IsBlockRefused, IsItemRefused};
+ghost use Rattle.ix_dag_json.specs.Text.{IsBlock, IsTextOf, IsBlockText, IsBlockRefused};
 ghost use Rattle.ix_dag_json.specs.Written.{text_in};
 
 use crate::fault::DagJsonFault;
 use crate::leaf::push_bytes;
 use crate::output::{Layout, Output};
 use crate::print::push_item;
-use ix_cbor::{CborKind, check, skip_item};
+use ix_cbor::{CborKind, check};
 use std::alloc::{AllocError, Global};
 
 // How deep lists and maps may nest.
@@ -25,21 +25,6 @@ pub fn text_of_block(alloc: Global, block: &[u8], layout: Layout) -> Result<Stri
     match check(block) {
         Ok(()) => text_of_checked(alloc, block, layout),
         Err(fault) if fault.kind == CborKind::Memory => Err(DagJsonFault::Memory),
-        Err(fault) => Err(DagJsonFault::Block(fault)),
-    }
-}
-
-/// Returns the same for the item at the front of these bytes. What follows it isn't looked at. The place
-/// of an error is counted from the start of the item, and its path begins there.
-pub fn text_of_item(alloc: Global, bytes: &[u8], layout: Layout) -> Result<String, DagJsonFault>
-    ensures text { IfOk result (λ text. IsItemText layout bytes.now (string_bytes text)) }
-    ensures refused { IfErr result (IsItemRefused bytes.now) }
-{
-    match skip_item(bytes) {
-        Ok(rest) => {
-            let length = bytes.len().saturating_sub(rest.len());
-            text_of_block(alloc, &bytes[..length], layout)
-        }
         Err(fault) => Err(DagJsonFault::Block(fault)),
     }
 }

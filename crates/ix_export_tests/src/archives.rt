@@ -4,12 +4,12 @@
 ghost use Rattle.std.specs.Prelude.{◌≡◌, [], length, vec_len, IfOk};
 ghost use Rattle.std.specs.Arc.{arc_value};
 ghost use Rattle.ix_walk.specs.JobMeaning.{AreFew};
-ghost use Rattle.ix_archive.specs.ArchiveMeaning.{calls_of, events_of};
-ghost use Rattle.ix_archive.specs.Headline.{EachFresh, EachUnused, IsUnusedCheck};
+ghost use Rattle.ix_car.specs.ArchiveMeaning.{calls_of, events_of};
+ghost use Rattle.ix_car.specs.Headline.{EachFresh, EachUnused, IsUnusedCheck};
 ghost use Rattle.ix_pipeline.specs.Planned.{IsPlan};
 
 use crate::exporting::{ExportInput, chain, list, plan_of, started};
-use ix_archive::{Archive, Counts, End, Skip};
+use ix_car::{Archive, Counts, End, Skip};
 use ix_check::{Check, ShaCheck};
 use ix_fixtures::{Awaited, Before, CheckAfter, Refusing, TURNS, chain_archive, list_archive};
 use ix_pipeline::{Gate, Open, Outcome, Plan, export};

@@ -1,7 +1,7 @@
 //! A graph with far more visits than blocks.
 
 use crate::archives::Left;
-use ix_archive::Counts;
+use ix_car::Counts;
 use ix_cid::Cid;
 use ix_fixtures::{ABC, ABC_SECTION, archive_with, bytes_of, sections_of, store_of};
 use ix_store::Store;

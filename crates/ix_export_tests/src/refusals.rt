@@ -1,9 +1,9 @@
 //! The lines of errors, also of those that no input gives.
 
-use ix_car::{CarFault, CarKind};
 use ix_cid::CidFault;
 use ix_jobs::{JobErrorKind, JobsFault};
 use ix_run::{RunFault, fault_line};
+use ix_sections::{CarFault, CarKind};
 use std::test::Fail;
 
 fn car(kind: CarKind, place: usize) -> RunFault {

@@ -2,7 +2,7 @@
 
 ghost use Rattle.std.specs.Prelude.{◌≡◌, length, IfOk};
 ghost use Rattle.std.specs.Arc.{arc_value};
-ghost use Rattle.ix_archive.specs.Headline.{IsUnusedCheck};
+ghost use Rattle.ix_car.specs.Headline.{IsUnusedCheck};
 ghost use Rattle.ix_run.specs.Run.{CanRun};
 
 use crate::input::{CHAIN_JOBS, chain_car};

@@ -5,7 +5,7 @@ ghost use Rattle.std.specs.Arc.{arc_value};
 ghost use Rattle.ix_pipeline.specs.Headline.{EachUnused};
 
 use crate::exporting::{ExportInput, list, plan_of, started};
-use ix_archive::End;
+use ix_car::End;
 use ix_check::{ShaCheck, Verdict};
 use ix_fixtures::{ABC_SECTION, ALL, Log, ONE_LINK, ONE_LINK_SECTION, job_of, store_of};
 use ix_pipeline::{Open, export, export_plain};

@@ -5,7 +5,7 @@
 //! Without it all threads are started.
 
 use crate::exporting::{ExportInput, list, plan_of, started};
-use ix_archive::End;
+use ix_car::End;
 use ix_fixtures::{Before, CheckAfter, Log};
 use ix_pipeline::{Open, export};
 use ix_walk::Visit;

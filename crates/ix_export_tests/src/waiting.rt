@@ -1,12 +1,12 @@
 //! Exports in which one stage waits for another: delivery goes on while visits are checked, checks
 //! while jobs are walked, and any walker takes any job.
 
-ghost use Rattle.ix_archive.specs.Headline.{IsUnusedCheck};
+ghost use Rattle.ix_car.specs.Headline.{IsUnusedCheck};
 
 use crate::archives::archived;
 use crate::exporting::{ExportInput, chain, list, plan_of, started};
 use crate::layers::{is_layers, layers};
-use ix_archive::{End, Sink, SinkFault};
+use ix_car::{End, Sink, SinkFault};
 use ix_check::{ShaCheck, Verdict};
 use ix_fixtures::{ALL, Awaited, Before, CheckAfter, Log, TURNS, job_at};
 use ix_pipeline::{Gate, Open, export};
@@ -27,7 +27,7 @@ struct ProgressMode<'a> {
 
 impl Sink for ProgressMode<'_> {
     ghost use Rattle.std.specs.Prelude.{◌++◌, map, option_to_list};
-    ghost use Rattle.ix_archive.specs.Events.{delivery, close as closing};
+    ghost use Rattle.ix_car.specs.Events.{delivery, close as closing};
 
     ghost calls = { λ s. record {
       events = map delivery s.log.deliveries.items ++ map closing (option_to_list s.log.closed);

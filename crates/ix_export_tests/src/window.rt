@@ -4,7 +4,7 @@
 use crate::archives::archived;
 use crate::exporting::{ExportInput, plan_of, started};
 use crate::layers::{is_layers, layers};
-use ix_archive::End;
+use ix_car::End;
 use ix_check::ShaCheck;
 use ix_fixtures::{ALL, Awaited, Before, CheckAfter, Log, TURNS, job_at};
 use ix_pipeline::{Gate, Open, export};

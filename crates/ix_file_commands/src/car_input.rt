@@ -1,9 +1,9 @@
 //! The CARv1 file in an input, and why one is rejected.
 
-use ix_car::{CarFault, payload_of};
 use ix_cli_io::{Failure, Progress, Stop, load_input};
 use ix_options::cause_of;
 use ix_run::RunFault;
+use ix_sections::{CarFault, payload_of};
 use ix_verify::{CarBytes, Kind, kind_of};
 use std::alloc::{AllocError, Global};
 use std::fs::File;

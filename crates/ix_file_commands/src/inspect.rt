@@ -1,12 +1,9 @@
 //! The command `inspect`: describes a CARv1 file, or says what another file is.
 
-ghost use Rattle.ix_car.specs.Payload.{IsWithin};
+ghost use Rattle.ix_sections.specs.Payload.{IsWithin};
 
 use crate::json_inspect::{Described, fault_object, section_object, summary_object};
 use clap::ArgMatches;
-use ix_car::{
-    CarFault, CarKind, Payload, Section, has_index, is_carv2, payload_of, read_header, read_section,
-};
 use ix_cid::{Cid, HashFunction};
 use ix_cli_io::{ANY_SIZE, ErrorCode, Failure, STANDARD_INPUT, read_input};
 use ix_options::{
@@ -14,6 +11,9 @@ use ix_options::{
     available_processors, is_of_carv2, most_input, words_of,
 };
 use ix_run::RunFault;
+use ix_sections::{
+    CarFault, CarKind, Payload, Section, has_index, is_carv2, payload_of, read_header, read_section,
+};
 use ix_verify::{Kind, Summary, codec_name, hash_name, kind_of, summary_of};
 use std::alloc::{AllocError, Global};
 use std::fmt::Write as FmtWrite;

@@ -1,9 +1,9 @@
 //! What the command `inspect` prints as JSON.
 
 use crate::json_line::{begin_object, end_object, push_boolean, push_count};
-use ix_car::{CarFault, Section};
 use ix_cid::Cid;
 use ix_json_report::{push_cid, push_text};
+use ix_sections::{CarFault, Section};
 use ix_verify::{Summary, codec_name, hash_name};
 use json::Writer;
 use std::alloc::{AllocError, Global};

@@ -3,7 +3,7 @@
 use crate::exact::Inexact;
 use crate::json_line::{begin_object, end_object, push_boolean, push_count};
 use crate::verify_report::{NO_FILE, Report};
-use ix_archive::Skip;
+use ix_car::Skip;
 use ix_cbor::CborFault;
 use ix_json_report::{push_cid, push_text, push_verdict};
 use ix_path::cause_word;

@@ -9,7 +9,6 @@ use crate::verify_spec::{ALL, BLOCKS_ONLY, EXACT, FILES, PATHS, PREFER_SOUND, QU
 use crate::wanted::Wanted;
 use clap::ArgMatches;
 use clap::error::ErrorKind as UsageKind;
-use ix_car::read_header;
 use ix_cid::code::{DAG_CBOR, RAW};
 use ix_cli_io::{
     ANY_SIZE, Causes, ErrorCode, Failure, Progress, ProgressMode, REFUSED, STANDARD_INPUT,
@@ -20,6 +19,7 @@ use ix_options::{
     Host, JSON, VERIFIERS, available_processors, failure_object, later_note, most_input, print_all,
     print_notes, progress_mode,
 };
+use ix_sections::read_header;
 use ix_store::Store;
 use ix_trace::trace;
 use ix_verify::{

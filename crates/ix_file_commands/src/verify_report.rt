@@ -3,14 +3,14 @@
 use crate::car_input::NOT_SOUND;
 use crate::exact::Inexact;
 use crate::json_verify::{no_file_object, report_object};
-use ix_archive::Skip;
-use ix_car::read_section;
+use ix_car::Skip;
 use ix_cbor::CborFault;
 use ix_cid::HashFunction;
 use ix_cli_io::{Failure, STANDARD_INPUT};
 use ix_options::print_all;
 use ix_path::{cause_word, fault_in};
 use ix_run::RunFault;
+use ix_sections::read_section;
 use ix_verdict::Verdict;
 use ix_verify::{Findings, Outcome, Unsound};
 use std::alloc::{AllocError, Global};

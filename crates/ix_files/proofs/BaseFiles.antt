@@ -2,10 +2,10 @@
 use Rattle.std.proofs.Common.{◌≡◌, Bool, List, ℕ, sym, subst}
 use Rattle.std.specs.Prelude.{Result, Ok, Err, IfOk, IsOkAnd}
 use Rattle.ix_store.specs.Store.{Blocks}
-use Rattle.ix_car.specs.declared.fault.CarFault.{CarFault}
-use Rattle.ix_car.specs.declared.payload.Payload.{Payload}
-use Rattle.ix_car.specs.Payload.{bytes_of}
-use Rattle.ix_car.specs.Reading.{blocks_after}
+use Rattle.ix_sections.specs.declared.fault.CarFault.{CarFault}
+use Rattle.ix_sections.specs.declared.payload.Payload.{Payload}
+use Rattle.ix_sections.specs.Payload.{bytes_of}
+use Rattle.ix_sections.specs.Reading.{blocks_after}
 use Rattle.ix_base.specs.Base.{BaseMeaning, IsOfBase, AddsFile}
 use Rattle.ix_files.specs.declared.loader.Copies.TheVariants.{First}
 use Rattle.ix_files.specs.Files.{payload_by}

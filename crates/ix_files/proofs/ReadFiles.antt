@@ -2,7 +2,7 @@
 use Rattle.std.proofs.Common.{◌≡◌, ℕ, Bool, List, length, ap}
 use Rattle.std.specs.Prelude.{Result, Ok, Err, IsOkAnd}
 use Rattle.ix_store.specs.Store.{Blocks}
-use Rattle.ix_car.specs.Reading.{Fault, ◌>>=◌}
+use Rattle.ix_sections.specs.Reading.{Fault, ◌>>=◌}
 use Rattle.ix_files.specs.declared.loader.Copies.{Copies}
 use Rattle.ix_files.specs.Files.{placed, payload_by, with_car, part_of, with_file}
 

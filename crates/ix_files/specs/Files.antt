@@ -3,12 +3,12 @@ use Rattle.std.specs.Prelude.{◌≡◌, ◌≢◌, ℕ, ◌+◌, ◌-◌, Bool,
 use Rattle.std.specs.Global.{Vec}
 use Rattle.ix_store.specs.Store.{Blocks}
 use Rattle.ix_store.specs.Sound.{sound_copies, later_count}
-use Rattle.ix_car.specs.declared.fault.CarKind.TheVariants.{Memory}
-use Rattle.ix_car.specs.declared.fault.CarFault.{CarFault}
-use Rattle.ix_car.specs.Copies.{with_copies}
-use Rattle.ix_car.specs.Payload.{payload_of}
-use Rattle.ix_car.specs.Reading.{Fault, ◌>>=◌, blocks_after}
-use Rattle.ix_car.specs.Sections.{section_list}
+use Rattle.ix_sections.specs.declared.fault.CarKind.TheVariants.{Memory}
+use Rattle.ix_sections.specs.declared.fault.CarFault.{CarFault}
+use Rattle.ix_sections.specs.Copies.{with_copies}
+use Rattle.ix_sections.specs.Payload.{payload_of}
+use Rattle.ix_sections.specs.Reading.{Fault, ◌>>=◌, blocks_after}
+use Rattle.ix_sections.specs.Sections.{section_list}
 use Rattle.ix_files.specs.declared.loader.Copies.{Copies}
 use Rattle.ix_files.specs.declared.loader.Copies.TheVariants.{First, Sound}
 use Rattle.ix_files.specs.declared.fault.FileFault.{FileFault}

@@ -4,7 +4,7 @@ use Rattle.std.specs.Global.{Vec}
 use Rattle.ix_store.specs.Store.{Blocks}
 use Rattle.ix_store.specs.declared.places.PlaceSet.{PlaceSet}
 use Rattle.ix_store.specs.PlaceSet.{contains_place}
-use Rattle.ix_archive.specs.KnownPlaces as bases
+use Rattle.ix_car.specs.KnownPlaces as bases
 use Rattle.ix_base.specs.Base.{BaseMeaning, IsOfBase}
 use Rattle.ix_jobs.specs.declared.list_fault.ListFault.{ListFault}
 use Rattle.ix_jobs.specs.GivesList.{IsFaultOf}

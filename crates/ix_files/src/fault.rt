@@ -1,9 +1,9 @@
 //! Why files are rejected.
 
 ghost use Rattle.std.specs.Prelude.{◌≡◌};
-ghost use Rattle.ix_car.specs.declared.fault.CarKind.TheVariants.{Memory};
+ghost use Rattle.ix_sections.specs.declared.fault.CarKind.TheVariants.{Memory};
 
-use ix_car::{CarFault, CarKind};
+use ix_sections::{CarFault, CarKind};
 
 /// The first file that is rejected, by its number from 0, and its error, whose place is counted from the start of the
 /// file. Of memory that ran out it may be another file.

@@ -1,14 +1,14 @@
 //! What reads files of blocks, one after the other.
 
 ghost use Rattle.std.specs.Prelude.{◌≡◌, ◌≢◌, [], IfOk, IfErr, Ok, Err};
-ghost use Rattle.ix_car.specs.Gives.{Gives};
-ghost use Rattle.ix_car.specs.Payload.{IsWithin, bytes_of, bytes_to};
-ghost use Rattle.ix_car.specs.declared.fault.CarKind.TheVariants.{Memory};
+ghost use Rattle.ix_sections.specs.Gives.{Gives};
+ghost use Rattle.ix_sections.specs.Payload.{IsWithin, bytes_of, bytes_to};
+ghost use Rattle.ix_sections.specs.declared.fault.CarKind.TheVariants.{Memory};
 ghost use Rattle.ix_files.specs.Files.{with_car, with_file, IsFileFault};
 ghost use Rattle.ix_files.specs.Loader.{copies_in, blocks_in};
 
 use crate::payload::payload_in;
-use ix_car::{BlockLoader, CarFault, Payload, SoundLoader};
+use ix_sections::{BlockLoader, CarFault, Payload, SoundLoader};
 use std::alloc::Global;
 use std::thread::Threads;
 

@@ -1,11 +1,11 @@
 //! The CARv1 file in a file.
 
 ghost use Rattle.std.specs.Prelude.{IfOk};
-ghost use Rattle.ix_car.specs.Gives.{Gives};
-ghost use Rattle.ix_car.specs.Payload.{IsWithin};
+ghost use Rattle.ix_sections.specs.Gives.{Gives};
+ghost use Rattle.ix_sections.specs.Payload.{IsWithin};
 ghost use Rattle.ix_files.specs.Files.{payload_by};
 
-use ix_car::{CarFault, Payload, payload_of};
+use ix_sections::{CarFault, Payload, payload_of};
 
 // Returns where the CARv1 file in a file begins and ends: the whole, if CARv2 isn't read.
 pub(crate) fn payload_in(carv2: bool, bytes: &[u8]) -> Result<Payload, CarFault>

@@ -1,6 +1,6 @@
 //! A check before which something else is done, and one that runs out of memory at one visit.
 
-ghost use Rattle.ix_archive.specs.Headline.{IsUnusedCheck};
+ghost use Rattle.ix_car.specs.Headline.{IsUnusedCheck};
 
 use ix_check::{Check, ShaCheck, Verdict};
 use ix_store::Store;

@@ -1,9 +1,9 @@
 //! A sink that records what it receives.
 
 ghost use Rattle.std.specs.Prelude.{◌≡◌, ◌≤◌, ◌++◌, [], map, option_to_list, vec_capacity, IfOk};
-ghost use Rattle.ix_archive.specs.Events.{delivery, close as closing};
+ghost use Rattle.ix_car.specs.Events.{delivery, close as closing};
 
-use ix_archive::{Delivery, End, Sink, SinkFault};
+use ix_car::{Delivery, End, Sink, SinkFault};
 use ix_check::Verdict;
 use ix_walk::Visit;
 use std::alloc::{AllocError, Global};
@@ -39,7 +39,7 @@ impl Log {
 
 impl Sink for Log {
     ghost use Rattle.std.specs.Prelude.{◌++◌, map, option_to_list};
-    ghost use Rattle.ix_archive.specs.Events.{delivery, close as closing};
+    ghost use Rattle.ix_car.specs.Events.{delivery, close as closing};
 
     ghost calls = { λ s. record {
       events = map delivery s.deliveries.items ++ map closing (option_to_list s.closed);

@@ -2,7 +2,6 @@
 
 use crate::json_faults::fault_objects;
 use clap::ArgMatches;
-use ix_car::{is_carv2, read_header};
 use ix_cli_io::{ANY_SIZE, ErrorCode, Failure, REFUSED, read_input};
 use ix_job_errors::{fault_lines, job_faults_of_part, job_faults_up_to};
 use ix_jobs::JobsFault;
@@ -12,6 +11,7 @@ use ix_options::{
     ArgKind, ArgSpec, CommandSpec, JSON, MAX_INPUT, MAX_LIMIT, QUIET, most_input, print_all,
 };
 use ix_run::{RunFault, fault_line};
+use ix_sections::{is_carv2, read_header};
 use std::alloc::{AllocError, Global};
 use std::rt::Files;
 

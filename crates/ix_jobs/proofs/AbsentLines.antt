@@ -10,7 +10,7 @@ use Rattle.std.specs.declared.iter.Zip.{Zip}
 use Rattle.std.specs.declared.slice.Iter.{Iter}
 use mathlib.Core.Logic.{◌⊎◌, inl, inr}
 use Rattle.ix_walk.specs.JobMeaning.{JobMeaning}
-use Rattle.ix_archive.specs.declared.archive.Skip.{Skip}
+use Rattle.ix_car.specs.declared.archive.Skip.{Skip}
 use Rattle.ix_jobs.specs.Report.{skip_lines, absent_line, all_absent_lines}
 use Rattle.ix_jobs.specs.declared.results.JobResult.{JobResult}
 use Rattle.ix_jobs.proofs.Lines.{regrouped}

@@ -5,7 +5,7 @@ use Rattle.std.proofs.lemmas.List.{append-nil}
 use Rattle.std.proofs.lemmas.Bool.{lt-ltb, le-ltb}
 use mathlib.Core.Logic.{◌⊎◌, inl, inr}
 use Rattle.ix_walk.specs.JobMeaning.{JobMeaning}
-use Rattle.ix_archive.specs.declared.archive.Skip.{Skip}
+use Rattle.ix_car.specs.declared.archive.Skip.{Skip}
 use Rattle.ix_jobs.specs.Report.{is_done, skip_lines, job_line, all_lines, done_count, skip_count, total_line, status_of}
 use Rattle.ix_jobs.specs.declared.results.JobResult.{JobResult}
 

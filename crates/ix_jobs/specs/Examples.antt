@@ -8,7 +8,7 @@ use Rattle.ix_jobs.specs.declared.fault.JobErrorKind.TheVariants.{Fields, Name, 
 use Rattle.ix_jobs.specs.Jobs.{jobs_of}
 use Rattle.ix_jobs.specs.Report.{report_of, job_line, skip_line}
 use Rattle.ix_verdict.specs.declared.verdict.Verdict.TheVariants.{Missing}
-use Rattle.ix_archive.specs.declared.sink.End.TheVariants.{Done}
+use Rattle.ix_car.specs.declared.sink.End.TheVariants.{Done}
 use Rattle.std.specs.Fmt.{digits}
 
 pub one_job : jobs_of (codes "# x" ++ 10 ∷ codes "a bafkqaaa 10 a1612ea0" ++ 13 ∷ 10 ∷ []) ≡ Ok (record { name = codes "a"; roots = (1 ∷ 0x55 ∷ 0 ∷ 0 ∷ []) ∷ []; selector = matcher; limit = 10; once = false } ∷ [])

@@ -4,7 +4,7 @@ use Rattle.std.specs.List.{list_any, filter, find}
 use Rattle.ix_cid.specs.Cid.{codec_of}
 use Rattle.ix_verdict.specs.Verdict.{is_missing}
 use Rattle.ix_walk.specs.JobMeaning.{JobMeaning}
-use Rattle.ix_archive.specs.declared.archive.Skip.{Skip}
+use Rattle.ix_car.specs.declared.archive.Skip.{Skip}
 use Rattle.ix_jobs.specs.declared.missing.AllowMissing.{AllowMissing}
 use Rattle.ix_jobs.specs.declared.results.JobResult.{JobResult}
 use Rattle.ix_jobs.specs.Jobs.{root_texts}

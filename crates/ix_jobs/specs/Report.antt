@@ -4,11 +4,11 @@ use Rattle.std.specs.List.{list_all}
 use Rattle.ix_cid.specs.CidText.{text_of}
 use Rattle.ix_walk.specs.JobMeaning.{JobMeaning}
 use Rattle.ix_check.specs.VerdictWords.{verdict_word}
-use Rattle.ix_archive.specs.EndWords.{end_word}
-use Rattle.ix_archive.specs.declared.sink.End.{End}
-use Rattle.ix_archive.specs.declared.sink.End.TheVariants.{Done, Limit, Memory, Write, Start}
-use Rattle.ix_archive.specs.declared.archive.Skip.{Skip}
-use Rattle.ix_archive.specs.declared.archive.Counts.{Counts}
+use Rattle.ix_car.specs.EndWords.{end_word}
+use Rattle.ix_car.specs.declared.sink.End.{End}
+use Rattle.ix_car.specs.declared.sink.End.TheVariants.{Done, Limit, Memory, Write, Start}
+use Rattle.ix_car.specs.declared.archive.Skip.{Skip}
+use Rattle.ix_car.specs.declared.archive.Counts.{Counts}
 use Rattle.ix_jobs.specs.declared.results.JobResult.{JobResult}
 
 abbrev pub is_done : End → Bool

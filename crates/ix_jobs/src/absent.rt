@@ -6,7 +6,7 @@ ghost use Rattle.ix_jobs.specs.Missing.{is_root, is_absent, absent_count, IsRepo
 
 use crate::missing::AllowMissing;
 use crate::results::JobResult;
-use ix_archive::Skip;
+use ix_car::Skip;
 use ix_check::Verdict;
 use ix_cid::Cid;
 use ix_walk::Job;

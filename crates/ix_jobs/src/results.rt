@@ -17,7 +17,7 @@ ghost use Rattle.ix_jobs.specs.Report.{
   report_with_absent,
 };
 
-use ix_archive::{Counts, End, Skip};
+use ix_car::{Counts, End, Skip};
 use ix_walk::Job;
 use std::alloc::{AllocError, Global};
 

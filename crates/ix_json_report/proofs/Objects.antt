@@ -8,7 +8,7 @@ use Rattle.json.specs.Print.{print}
 use Rattle.json.specs.Tree.{json_tokens, items_tokens, members_tokens, depth, items_depth, members_depth}
 use Rattle.json.proofs.Printed.Trees.{value-json_tokens}
 use Rattle.ix_walk.specs.JobMeaning.{JobMeaning}
-use Rattle.ix_archive.specs.declared.archive.Skip.{Skip}
+use Rattle.ix_car.specs.declared.archive.Skip.{Skip}
 use Rattle.ix_jobs.specs.declared.results.JobResult.{JobResult}
 use Rattle.std.specs.Prelude.{Result, Ok, Err}
 use Rattle.json.specs.Written.{Written}

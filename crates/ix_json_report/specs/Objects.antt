@@ -5,8 +5,8 @@ use Rattle.json.specs.Json.{Json, array, object, Items, no_items, item, Members,
 use Rattle.ix_cid.specs.CidText.{text_of}
 use Rattle.ix_walk.specs.JobMeaning.{JobMeaning}
 use Rattle.ix_check.specs.VerdictWords.{verdict_word}
-use Rattle.ix_archive.specs.EndWords.{end_word}
-use Rattle.ix_archive.specs.declared.archive.Skip.{Skip}
+use Rattle.ix_car.specs.EndWords.{end_word}
+use Rattle.ix_car.specs.declared.archive.Skip.{Skip}
 use Rattle.ix_jobs.specs.declared.results.JobResult.{JobResult}
 use Rattle.ix_jobs.specs.Report.{done_count, skip_count}
 use Rattle.ix_json_report.specs.Members.{text_before, number_before}

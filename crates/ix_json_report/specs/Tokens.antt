@@ -4,10 +4,10 @@ use Rattle.json.specs.Token.{Token, begin_object, end_object, begin_array, end_a
 use Rattle.ix_cid.specs.CidText.{text_of}
 use Rattle.ix_walk.specs.JobMeaning.{JobMeaning}
 use Rattle.ix_check.specs.VerdictWords.{verdict_word}
-use Rattle.ix_archive.specs.EndWords.{end_word}
-use Rattle.ix_archive.specs.declared.sink.End.{End}
-use Rattle.ix_archive.specs.declared.archive.Skip.{Skip}
-use Rattle.ix_archive.specs.declared.archive.Counts.{Counts}
+use Rattle.ix_car.specs.EndWords.{end_word}
+use Rattle.ix_car.specs.declared.sink.End.{End}
+use Rattle.ix_car.specs.declared.archive.Skip.{Skip}
+use Rattle.ix_car.specs.declared.archive.Counts.{Counts}
 use Rattle.ix_jobs.specs.declared.results.JobResult.{JobResult}
 use Rattle.ix_jobs.specs.Report.{done_count, skip_count}
 use Rattle.ix_json_report.specs.Members.{text_member, number_member}

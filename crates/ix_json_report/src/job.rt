@@ -9,7 +9,7 @@ use crate::line::end_line;
 use crate::members::{push_number, push_text};
 use crate::place::{ArchivePlace, push_place};
 use crate::skips::{SkipNotes, push_skips};
-use ix_archive::{Counts, End};
+use ix_car::{Counts, End};
 use ix_jobs::JobResult;
 use ix_walk::Job;
 use json::Writer;

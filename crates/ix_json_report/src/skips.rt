@@ -6,7 +6,7 @@ ghost use Rattle.ix_json_report.specs.Tokens.{reason_tokens, skip_members, path_
 ghost use Rattle.ix_json_report.specs.Objects.{path_at, cause_view, cause_at};
 
 use crate::members::{push_cid, push_number, push_text, push_verdict};
-use ix_archive::Skip;
+use ix_car::Skip;
 use json::Writer;
 use std::alloc::{AllocError, Global};
 

@@ -8,7 +8,7 @@ ghost use Rattle.ix_json_report.specs.Tokens.{totals_tokens, total_tokens};
 
 use crate::line::end_line;
 use crate::members::push_number;
-use ix_archive::End;
+use ix_car::End;
 use ix_jobs::JobResult;
 use json::Writer;
 use std::alloc::AllocError;

@@ -2,7 +2,7 @@
 use Rattle.std.specs.Prelude.{◌≡◌, ℕ, List, Option}
 use Rattle.ix_store.specs.Store.{Blocks}
 use Rattle.ix_walk.specs.JobMeaning.{JobMeaning}
-use Rattle.ix_archive.specs.Archive.{Known}
+use Rattle.ix_car.specs.Archive.{Known}
 use Rattle.ix_run.specs.declared.execution.RunOut.{RunOut}
 use Rattle.ix_run.specs.Run.{HasRun}
 use Rattle.ix_cli_io.specs.declared.archive_buffers.ArchiveWriter.{ArchiveWriter}

@@ -2,7 +2,7 @@
 use Rattle.std.specs.Prelude.{◌≡◌, ℕ, List, map, Option, Some, None, slice_get, string_bytes}
 use Rattle.std.specs.Borrow.{Bor}
 use Rattle.std.specs.Global.{Vec}
-use Rattle.ix_car.specs.declared.fault.CarFault.{CarFault}
+use Rattle.ix_sections.specs.declared.fault.CarFault.{CarFault}
 use Rattle.ix_run.specs.declared.fault.RunFault.{RunFault}
 use Rattle.ix_run.specs.declared.fault.RunFault.TheVariants.{Car}
 use Rattle.ix_cli_io.specs.declared.fault.Failure.{Failure}

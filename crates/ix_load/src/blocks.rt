@@ -9,7 +9,6 @@ ghost use Rattle.ix_load.specs.Refusals.{NamesCarFault, NamesFault, NamesFirst, 
 
 use clap::ArgMatches;
 use clap::error::ErrorKind;
-use ix_car::{CarFault, payload_of, read_header};
 use ix_cid::{Cid, read_varint};
 use ix_cli_io::{
     Failure, Progress, STANDARD_INPUT, check_index, check_memory, load_input, size_of_all,
@@ -19,6 +18,7 @@ use ix_options::{
     ArgSpec, BLOCKS, CommandSpec, PREFER_SOUND, WITHOUT, cause_of, later_note, print_notes,
 };
 use ix_run::RunFault;
+use ix_sections::{CarFault, payload_of, read_header};
 use ix_store::{PlaceSet, Store};
 use ix_verify::{Kind, kind_of};
 use std::alloc::{AllocError, Global};

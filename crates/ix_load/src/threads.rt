@@ -2,7 +2,7 @@
 
 ghost use Rattle.std.specs.Prelude.{◌≤◌, IfOk, IfErr};
 ghost use Rattle.std.specs.Arc.{arc_value};
-ghost use Rattle.ix_archive.specs.Archive.{known_at};
+ghost use Rattle.ix_car.specs.Archive.{known_at};
 ghost use Rattle.ix_run.specs.Run.{CanRun, IsRunRefusal};
 ghost use Rattle.ix_load.specs.Ran.{HasReported, HasReportedToFiles};
 

@@ -1,6 +1,6 @@
 //! What a file is, in words.
 
-use ix_car::{CarFault, CarKind};
+use ix_sections::{CarFault, CarKind};
 use ix_verify::Kind;
 
 /// What is wrong with a CARv2 file whose payload can't be read.

@@ -1,7 +1,7 @@
 -- The bytes that are kept of a stream.
 use Rattle.std.proofs.Common.{◌≡◌, ℕ, ◌+◌, List, ◌++◌, length, take, drop, sym, ◌∙◌, ap, append_assoc}
 use Rattle.std.proofs.lemmas.List.{drop-drop}
-use Rattle.ix_car.proofs.Growth.{take-more}
+use Rattle.ix_sections.proofs.Growth.{take-more}
 use Rattle.ix_own_archive.specs.Taking.{TakenBytes, bytes_of, advanced}
 
 -- more of them are checked

@@ -8,8 +8,8 @@ use Rattle.ix_cid.specs.Varint.{varint_of}
 use Rattle.ix_cid.proofs.Results.{ok_same}
 use Rattle.ix_store.specs.Store.{Blocks}
 use Rattle.ix_walk.specs.JobMeaning.{JobMeaning}
-use Rattle.ix_car.specs.Reading.{Fault, header_at, section_at}
-use Rattle.ix_car.specs.Writing.{header_of}
+use Rattle.ix_sections.specs.Reading.{Fault, header_at, section_at}
+use Rattle.ix_sections.specs.Writing.{header_of}
 use Rattle.ix_own_archive.specs.declared.stream_asked.ExpectedHeader.{ExpectedHeader}
 use Rattle.ix_own_archive.specs.declared.stream_asked.ExpectedHeader.TheVariants.{OfJob, Any}
 use Rattle.ix_own_archive.specs.Fronts.{is_whole}

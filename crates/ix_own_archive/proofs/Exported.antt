@@ -1,7 +1,7 @@
 -- What is exported isn't refused.
 use Rattle.std.proofs.Common.{◌≡◌, ℕ, Bool, true, false, List, refl}
 use Rattle.ix_walk.specs.JobMeaning.{JobMeaning}
-use Rattle.ix_archive.specs.Laws.{once}
+use Rattle.ix_car.specs.Laws.{once}
 use Rattle.ix_receive.specs.Own.{IsItsOwn}
 use Rattle.ix_own_archive.specs.declared.fault.ArchiveReason.{ArchiveReason}
 use Rattle.ix_own_archive.specs.declared.fault.ArchiveReason.TheVariants.{Header, OtherHeader, Section, Refused, Unfinished, Memory}

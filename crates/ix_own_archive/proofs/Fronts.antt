@@ -11,10 +11,10 @@ use Rattle.ix_cid.specs.Cid.{cid_at}
 use Rattle.ix_cid.proofs.GroupLaws.{continued_length}
 use Rattle.ix_cid.proofs.VarintLaws.{IsVarint-varint_of, varint_at-append}
 use Rattle.ix_cbor.specs.Reading.{data_at}
-use Rattle.ix_car.specs.declared.fault.CarKind.{CarKind}
-use Rattle.ix_car.specs.declared.fault.CarKind.TheVariants.{Truncated, Varint, SectionCid}
-use Rattle.ix_car.specs.Reading.{Fault, ◌>>=◌, text_at, text_after, pair_of, section_at, header_at, header_fault, behind_header}
-use Rattle.ix_car.specs.Writing.{with_length}
+use Rattle.ix_sections.specs.declared.fault.CarKind.{CarKind}
+use Rattle.ix_sections.specs.declared.fault.CarKind.TheVariants.{Truncated, Varint, SectionCid}
+use Rattle.ix_sections.specs.Reading.{Fault, ◌>>=◌, text_at, text_after, pair_of, section_at, header_at, header_fault, behind_header}
+use Rattle.ix_sections.specs.Writing.{with_length}
 use Rattle.ix_own_archive.specs.Fronts.{is_whole, is_whole_by}
 use Rattle.ix_own_archive.specs.Streaming.{IsAbove}
 

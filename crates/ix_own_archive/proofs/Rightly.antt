@@ -5,10 +5,10 @@ use Rattle.std.specs.List.{AllByRecursion}
 use Rattle.ix_cid.specs.Cid.{IsCid}
 use Rattle.ix_store.specs.Store.{Blocks}
 use Rattle.ix_walk.specs.JobMeaning.{JobMeaning}
-use Rattle.ix_archive.specs.Laws.{once}
+use Rattle.ix_car.specs.Laws.{once}
 use Rattle.ix_walk.proofs.Links.{all-append}
-use Rattle.ix_car.specs.Writing.{header_of}
-use Rattle.ix_car.specs.Reading.{Fault, section_at}
+use Rattle.ix_sections.specs.Writing.{header_of}
+use Rattle.ix_sections.specs.Reading.{Fault, section_at}
 use Rattle.ix_receive.specs.declared.allow_missing.AllowMissing.{AllowMissing}
 use Rattle.ix_receive.specs.declared.fault.ReceiveFault.{ReceiveFault}
 use Rattle.ix_receive.specs.declared.fault.ReceiveFault.TheVariants as received

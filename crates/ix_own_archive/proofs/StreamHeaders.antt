@@ -9,11 +9,11 @@ use Rattle.ix_cid.proofs.Results.{ok_same, bind_ok}
 use Rattle.ix_walk.specs.JobMeaning.{JobMeaning}
 use Rattle.ix_cbor.specs.Reading.{data_at}
 use Rattle.ix_cbor.specs.Spelling.{spelling_of}
-use Rattle.ix_car.specs.declared.fault.CarKind.{CarKind}
-use Rattle.ix_car.specs.declared.fault.CarKind.TheVariants as kinds
-use Rattle.ix_car.specs.Gives.{FailsAs}
-use Rattle.ix_car.specs.Reading.{Fault, ◌>>=◌, text_at, header_at, header_fault, behind_header}
-use Rattle.ix_car.specs.Writing.{with_length, header_data, header_of}
+use Rattle.ix_sections.specs.declared.fault.CarKind.{CarKind}
+use Rattle.ix_sections.specs.declared.fault.CarKind.TheVariants as kinds
+use Rattle.ix_sections.specs.Gives.{FailsAs}
+use Rattle.ix_sections.specs.Reading.{Fault, ◌>>=◌, text_at, header_at, header_fault, behind_header}
+use Rattle.ix_sections.specs.Writing.{with_length, header_data, header_of}
 use Rattle.ix_receive.specs.Reception.{Reception, nothing_received_with}
 use Rattle.ix_receive.proofs.Received.{none-at-first}
 use Rattle.ix_own_archive.specs.declared.fault.ArchiveReason.{ArchiveReason}

@@ -4,7 +4,7 @@ use Rattle.std.specs.Prelude.{Ok}
 use Rattle.std.specs.List.{AllByRecursion}
 use Rattle.ix_cid.specs.Cid.{IsCid}
 use Rattle.ix_store.specs.Store.{Blocks}
-use Rattle.ix_car.specs.declared.fault.CarKind.TheVariants as kinds
+use Rattle.ix_sections.specs.declared.fault.CarKind.TheVariants as kinds
 use Rattle.ix_receive.specs.declared.counts.Counts.{Counts}
 use Rattle.ix_receive.specs.declared.fault.ReceiveFault.{ReceiveFault}
 use Rattle.ix_receive.specs.Keeping.{kept_of}

@@ -7,8 +7,8 @@ use Rattle.ix_cid.specs.Cid.{IsCid}
 use Rattle.ix_cid.proofs.Results.{ok_same}
 use Rattle.ix_walk.specs.JobMeaning.{JobMeaning}
 use Rattle.ix_walk.proofs.Links.{all-append}
-use Rattle.ix_car.specs.Reading.{Fault, header_at}
-use Rattle.ix_car.specs.Writing.{header_of, section_with}
+use Rattle.ix_sections.specs.Reading.{Fault, header_at}
+use Rattle.ix_sections.specs.Writing.{header_of, section_with}
 use Rattle.ix_receive.specs.Own.{archive_bytes}
 use Rattle.ix_receive.specs.Receiving.{OwnAreReceived}
 use Rattle.ix_receive.specs.Reception.{Reception}

@@ -10,9 +10,9 @@ use Rattle.ix_cid.proofs.VarintLaws.{IsVarint-varint_of}
 use Rattle.ix_cid.proofs.GroupLaws.{some_group}
 use Rattle.ix_store.specs.Store.{Blocks}
 use Rattle.ix_walk.specs.JobMeaning.{JobMeaning}
-use Rattle.ix_archive.specs.Laws.{once}
-use Rattle.ix_car.specs.Writing.{header_of}
-use Rattle.ix_car.specs.Reading.{Fault, section_at}
+use Rattle.ix_car.specs.Laws.{once}
+use Rattle.ix_sections.specs.Writing.{header_of}
+use Rattle.ix_sections.specs.Reading.{Fault, section_at}
 use Rattle.ix_receive.specs.Own.{archive_bytes, AreTheirOwnWith, IsItsOwnWith}
 use Rattle.ix_receive.specs.Receiving.{OwnAreReceived}
 use Rattle.ix_verify.proofs.TextsAgain.{section_again}

@@ -14,7 +14,7 @@ use Rattle.ix_walk.specs.JobMeaning.{JobMeaning}
 use Rattle.ix_walk.specs.Arrivals.{Arrival, Crossing, behind, arrivals_below, arrivals_in_items, arrivals_in_entries, when_some}
 use Rattle.ix_walk.specs.Once as walks
 use Rattle.ix_walk.proofs.Links.{all-append, all-right}
-use Rattle.ix_archive.specs.Laws.{once}
+use Rattle.ix_car.specs.Laws.{once}
 use Rattle.ix_receive.specs.Own.{AreTheirOwnWith}
 use Rattle.ix_receive.specs.Receiving.{first_visits, IsNextSection, OwnAreReceived}
 use Rattle.ix_verify.proofs.PairsAgain.{HasCid}

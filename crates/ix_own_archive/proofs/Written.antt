@@ -12,10 +12,10 @@ use Rattle.ix_cid.specs.declared.fault.VarintFault.TheVariants as varints
 use Rattle.ix_cid.specs.declared.fault.CidFault.{CidFault}
 use Rattle.ix_cid.proofs.VarintLaws.{IsVarint-is, varint_at-varint}
 use Rattle.ix_cid.proofs.Results.{past_test, ok_same, bind_ok}
-use Rattle.ix_car.specs.declared.fault.CarKind.TheVariants.{Truncated}
-use Rattle.ix_car.specs.Writing.{with_length}
-use Rattle.ix_car.specs.Reading.{Fault, ◌>>=◌, text_at, text_after, pair_of, section_at}
-use Rattle.ix_car.proofs.SectionCids.{has_cid}
+use Rattle.ix_sections.specs.declared.fault.CarKind.TheVariants.{Truncated}
+use Rattle.ix_sections.specs.Writing.{with_length}
+use Rattle.ix_sections.specs.Reading.{Fault, ◌>>=◌, text_at, text_after, pair_of, section_at}
+use Rattle.ix_sections.proofs.SectionCids.{has_cid}
 
 -- numbers that fit a byte
 pub are-bytes : (b : List ℕ) → ((i : ℕ) → get_or b i 0 < 2 ^ 8) → AreBytes b

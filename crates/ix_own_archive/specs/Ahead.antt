@@ -2,7 +2,7 @@
 use Rattle.std.specs.Prelude.{◌≡◌, ℕ, ◌<◌, List, length, drop, slice_index_or, IfSome, Some, Ok}
 use Rattle.ix_verdict.specs.declared.verdict.Verdict.{Verdict}
 use Rattle.ix_verdict.specs.Verdict.{verdict_with}
-use Rattle.ix_car.specs.Reading.{section_at}
+use Rattle.ix_sections.specs.Reading.{section_at}
 use Rattle.ix_own_archive.specs.declared.stream_ahead.Judged.{Judged}
 
 -- the verdict on the section at the front of bytes, if they begin with one

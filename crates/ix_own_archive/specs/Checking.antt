@@ -2,10 +2,10 @@
 use Rattle.std.specs.Prelude.{◌≡◌, ℕ, ◌-◌, true, false, Bool, List, [], ◌++◌, length, Some, Ok, Err}
 use Rattle.ix_cid.specs.Cid.{IsCid}
 use Rattle.ix_walk.specs.JobMeaning.{JobMeaning}
-use Rattle.ix_archive.specs.Laws.{once}
-use Rattle.ix_car.specs.Gives.{FailsAs}
-use Rattle.ix_car.specs.Reading.{header_at, section_at}
-use Rattle.ix_car.specs.Writing.{header_of, section_with}
+use Rattle.ix_car.specs.Laws.{once}
+use Rattle.ix_sections.specs.Gives.{FailsAs}
+use Rattle.ix_sections.specs.Reading.{header_at, section_at}
+use Rattle.ix_sections.specs.Writing.{header_of, section_with}
 use Rattle.ix_receive.specs.declared.allow_missing.AllowMissing.{AllowMissing}
 use Rattle.ix_receive.specs.declared.counts.Counts.{Counts}
 use Rattle.ix_receive.specs.declared.fault.ReceiveFault.{ReceiveFault}

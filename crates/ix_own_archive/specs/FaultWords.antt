@@ -2,7 +2,7 @@
 use Rattle.std.specs.Prelude.{ℕ, List, ◌++◌, codes}
 use Rattle.std.specs.Fmt.{decimal}
 use Rattle.ix_verdict.specs.VerdictWords.{verdict_word}
-use Rattle.ix_car.specs.FaultWords as car
+use Rattle.ix_sections.specs.FaultWords as car
 use Rattle.ix_receive.specs.declared.fault.ReceiveFault.{ReceiveFault}
 use Rattle.ix_receive.specs.declared.fault.ReceiveFault.TheVariants as received
 use Rattle.ix_own_archive.specs.declared.fault.ArchiveReason.{ArchiveReason}

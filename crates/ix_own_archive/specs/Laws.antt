@@ -4,7 +4,7 @@ use Rattle.ix_selector.specs.Pattern.{IsSelector}
 use Rattle.ix_store.specs.Store.{Blocks}
 use Rattle.ix_walk.specs.JobMeaning.{JobMeaning}
 use Rattle.ix_walk.specs.Visits.{is_over_limit}
-use Rattle.ix_archive.specs.Archive.{archive_of}
+use Rattle.ix_car.specs.Archive.{archive_of}
 use Rattle.ix_own_archive.specs.declared.fault.ArchiveReason.{ArchiveReason}
 use Rattle.ix_own_archive.specs.declared.fault.ArchiveReason.TheVariants.{Header, OtherHeader, Section, Refused, Unfinished, Memory}
 use Rattle.ix_own_archive.specs.Checking.{leaves_open, IsRightlyNot}

@@ -4,14 +4,14 @@ ghost use Rattle.std.specs.Prelude.{◌≡◌, ◌++◌, Some, IfOk, IfErr, IfSo
 ghost use Rattle.std.specs.List.{AllByRecursion};
 ghost use Rattle.ix_cid.specs.Cid.{IsCid};
 ghost use Rattle.ix_verdict.specs.Verdict.{verdict_with};
-ghost use Rattle.ix_car.specs.Writing.{header_of};
+ghost use Rattle.ix_sections.specs.Writing.{header_of};
 ghost use Rattle.ix_own_archive.specs.Ahead.{IsFrontVerdict};
 ghost use Rattle.ix_own_archive.specs.Checking.{IsAccepted, IsJobsOwn, IsFaultAt, IsRightlyNot, IsHeaderReason, HasReceived, IsSectionReason};
 
 use crate::fault::{ArchiveFault, ArchiveReason};
-use ix_car::{CarFault, CarKind, header_of, read_header, read_section};
 use ix_cid::Cid;
 use ix_receive::{AllowMissing, Counts, Receiver, law};
+use ix_sections::{CarFault, CarKind, header_of, read_header, read_section};
 use ix_store::verdict_on;
 use ix_verdict::Verdict;
 use ix_walk::Job;

@@ -1,8 +1,8 @@
 //! Why the bytes of an archive are not a job's own.
 
-use ix_car::CarKind;
 use ix_cid::Cid;
 use ix_receive::ReceiveFault;
+use ix_sections::CarKind;
 use std::fmt;
 
 /// What is wrong with an archive.

@@ -5,8 +5,8 @@ ghost use Rattle.std.specs.Prelude.{◌≡◌, ◌<◌, ℕ, List, length, drop,
 ghost use Rattle.ix_own_archive.specs.Ahead.{IsFrontVerdict, IsJudgedIn, AreJudgedIn};
 ghost use Rattle.ix_own_archive.specs.declared.stream_ahead.Judged.{Judged};
 
-use ix_car::read_section;
 use ix_cid::read_varint;
+use ix_sections::read_section;
 use ix_store::{map_interleaved, verdict_on};
 use ix_verdict::Verdict;
 use std::alloc::{AllocError, Global};

@@ -17,9 +17,9 @@ use crate::stream_asked::ExpectedHeader;
 use crate::stream_bytes::StreamBytes;
 use crate::stream_fault::StreamReason;
 use crate::stream_request::StreamRequest;
-use ix_car::{CarFault, CarKind, read_header};
 use ix_cid::{VarintFault, read_varint};
 use ix_receive::{Counts, Receiver, law};
+use ix_sections::{CarFault, CarKind, read_header};
 use ix_verdict::Verdict;
 use std::alloc::Global;
 

@@ -1,7 +1,7 @@
 //! What is asked of a stream.
 
 ghost use Rattle.std.specs.Prelude.{◌≡◌};
-ghost use Rattle.ix_car.specs.Writing.{header_of};
+ghost use Rattle.ix_sections.specs.Writing.{header_of};
 
 use crate::stream_asked::{ExpectedHeader, StreamLimits};
 use ix_receive::AllowMissing;

@@ -2,8 +2,8 @@
 use Rattle.std.proofs.Common.{◌≡◌, ℕ, ◌+◌, ◌<◌, ◌≤◌, Bool, true, false, List, Option, Some, None, refl, sym, ◌∙◌, subst, inl, inr, arith}
 use Rattle.std.specs.Prelude.{is_some, not, min, ◌||◌}
 use Rattle.std.proofs.lemmas.Bool.{cases_lt, cases_Bool}
-use Rattle.ix_archive.specs.declared.sink.Delivery.{Delivery}
-use Rattle.ix_archive.specs.Events.{Event}
+use Rattle.ix_car.specs.declared.sink.Delivery.{Delivery}
+use Rattle.ix_car.specs.Events.{Event}
 use Rattle.ix_pipeline.specs.declared.ring_fault.RingFault.{RingFault}
 use Rattle.ix_pipeline.specs.declared.ring_fault.RingFault.TheVariants as faults
 use Rattle.ix_pipeline.specs.declared.job_progress.JobProgress.{JobProgress}

@@ -2,10 +2,10 @@
 use Rattle.std.proofs.Common.{◌≡◌, ℕ, ◌+◌, List, [], ◌∷◌, length, Option, Some, None, refl, sym, ◌∙◌, ap, subst, arith}
 use Rattle.ix_store.specs.Store.{Blocks}
 use Rattle.ix_walk.specs.JobMeaning.{JobMeaning}
-use Rattle.ix_archive.specs.declared.sink.Delivery.{Delivery}
-use Rattle.ix_archive.specs.declared.sink.End.{End}
-use Rattle.ix_archive.specs.Events.{Event, Calls, IsOpen}
-use Rattle.ix_archive.specs.Headline.{EachFresh}
+use Rattle.ix_car.specs.declared.sink.Delivery.{Delivery}
+use Rattle.ix_car.specs.declared.sink.End.{End}
+use Rattle.ix_car.specs.Events.{Event, Calls, IsOpen}
+use Rattle.ix_car.specs.Headline.{EachFresh}
 use Rattle.ix_pipeline.specs.declared.job_progress.JobProgress.{JobProgress}
 use Rattle.ix_pipeline.specs.declared.job_progress.Stage.{Stage}
 use Rattle.ix_pipeline.specs.declared.job_progress.WalkEnd.{WalkEnd}

@@ -2,8 +2,8 @@
 use Rattle.std.proofs.Common.{◌≡◌, ℕ, zero, suc, ◌+◌, ◌<◌, ◌≤◌, Bool, true, false, List, [], ◌∷◌, ◌++◌, length, get_or, set, take, Some, None, refl, sym, ◌∙◌, ap, subst, arith}
 use Rattle.ix_store.specs.Store.{Blocks}
 use Rattle.ix_walk.specs.JobMeaning.{JobMeaning}
-use Rattle.ix_archive.specs.declared.sink.Delivery.{Delivery}
-use Rattle.ix_archive.specs.Events.{Calls}
+use Rattle.ix_car.specs.declared.sink.Delivery.{Delivery}
+use Rattle.ix_car.specs.Events.{Calls}
 use Rattle.ix_stages.specs.declared.verdicted.Verdicted.{Verdicted}
 use Rattle.ix_stages.specs.declared.verdicted.Verdicted.TheVariants.{Checked, Unchecked, Close, Last}
 use Rattle.ix_pipeline.specs.declared.job_progress.JobProgress.{JobProgress}
@@ -14,7 +14,7 @@ use Rattle.std.specs.Prelude.{not, ◌||◌}
 use Rattle.ix_pipeline.specs.JobProgress.{IsFine, IsItem, IsSafe, IsCome, IsEnded, IsMisplaced}
 use Rattle.std.proofs.lemmas.List.{take_more}
 use Rattle.ix_pipeline.specs.Collected.{EachSafe, EachCome, IsCollected, AllEnded, IsClosedAt, IsMisplacedAt}
-use Rattle.ix_archive.proofs.Each.{each_push}
+use Rattle.ix_car.proofs.Each.{each_push}
 use Rattle.ix_pipeline.proofs.Goodness.{tally_same, fine_of, item_of, good_before}
 
 -- the job of an item that may be sent is there

@@ -3,7 +3,7 @@ use Rattle.std.proofs.Common.{◌≡◌, ℕ, zero, suc, ◌+◌, ◌<◌, ◌�
 use Rattle.std.specs.Prelude.{◌==◌}
 use Rattle.std.proofs.lemmas.Bool.{cases_lt}
 use Rattle.std.proofs.lemmas.Bool.Decides.{nat_tests}
-use Rattle.ix_archive.specs.declared.sink.Delivery.{Delivery}
+use Rattle.ix_car.specs.declared.sink.Delivery.{Delivery}
 use Rattle.ix_stages.specs.Received.{Tally, seen, point}
 use Rattle.ix_pipeline.specs.JobProgress.{below, IsFine}
 

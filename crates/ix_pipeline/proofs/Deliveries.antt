@@ -5,8 +5,8 @@ use Rattle.ix_walk.specs.declared.visit.Visit.{Visit}
 use Rattle.ix_store.specs.Store.{Blocks}
 use Rattle.ix_verdict.specs.declared.verdict.Verdict.{Verdict}
 use Rattle.ix_check.specs.Verdict.{verdict_of}
-use Rattle.ix_archive.specs.Events.{Calls}
-use Rattle.ix_archive.specs.Verified.{judged}
+use Rattle.ix_car.specs.Events.{Calls}
+use Rattle.ix_car.specs.Verified.{judged}
 use Rattle.ix_pipeline.specs.declared.sink_state.SinkState.{SinkState}
 use Rattle.ix_pipeline.specs.declared.sink_state.SinkState.TheVariants.{Taking, Failed}
 use Rattle.ix_pipeline.specs.Progress.{HandsOn, Delivers}

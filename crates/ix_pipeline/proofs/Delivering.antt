@@ -4,10 +4,10 @@ use Rattle.std.specs.Prelude.{slice_get}
 use Rattle.std.proofs.lemmas.Bool.{cases_lt}
 use Rattle.std.proofs.lemmas.List.{map-append}
 use Rattle.std.proofs.lemmas.Option.{slice_get_within}
-use Rattle.ix_archive.specs.declared.sink.Delivery.{Delivery}
-use Rattle.ix_archive.specs.declared.sink.End.{End}
-use Rattle.ix_archive.specs.Events.{Event, delivery, IsOpen}
-use Rattle.ix_archive.proofs.Delivered.{open-push}
+use Rattle.ix_car.specs.declared.sink.Delivery.{Delivery}
+use Rattle.ix_car.specs.declared.sink.End.{End}
+use Rattle.ix_car.specs.Events.{Event, delivery, IsOpen}
+use Rattle.ix_car.proofs.Delivered.{open-push}
 use Rattle.ix_pipeline.specs.declared.job_progress.JobProgress.{JobProgress}
 use Rattle.ix_pipeline.specs.declared.job_progress.Stage.{Stage}
 use Rattle.ix_pipeline.specs.declared.job_progress.Stage.TheVariants.{Delivering, Failed, Stopped}

@@ -6,13 +6,13 @@ use Rattle.ix_store.specs.Store.{Blocks}
 use Rattle.ix_walk.specs.JobMeaning.{JobMeaning}
 use Rattle.ix_walk.specs.Arrivals.{Arrival}
 use Rattle.ix_walk.specs.Visits.{arrivals_of, visit_of, visits_from, visits_of}
-use Rattle.ix_archive.specs.declared.sink.Delivery.{Delivery}
-use Rattle.ix_archive.specs.declared.sink.End.{End}
-use Rattle.ix_archive.specs.declared.sink.End.TheVariants.{Memory, Start}
-use Rattle.ix_archive.specs.Events.{Event, Calls, delivery, close}
-use Rattle.ix_archive.specs.Verified.{judged, judged_visits}
-use Rattle.ix_archive.specs.Faithful.{IsFaithful}
-use Rattle.ix_archive.specs.Archived.{IsArchived}
+use Rattle.ix_car.specs.declared.sink.Delivery.{Delivery}
+use Rattle.ix_car.specs.declared.sink.End.{End}
+use Rattle.ix_car.specs.declared.sink.End.TheVariants.{Memory, Start}
+use Rattle.ix_car.specs.Events.{Event, Calls, delivery, close}
+use Rattle.ix_car.specs.Verified.{judged, judged_visits}
+use Rattle.ix_car.specs.Faithful.{IsFaithful}
+use Rattle.ix_car.specs.Archived.{IsArchived}
 use Rattle.ix_pipeline.proofs.Members.{cases_cons, none_in, has_got}
 use Rattle.ix_pipeline.proofs.Kept.{kept_same}
 use Rattle.ix_pipeline.proofs.ThreadClosings.{kept_set}

@@ -7,8 +7,8 @@ use Rattle.ix_stages.specs.declared.verdicted.Verdicted.{Verdicted}
 use Rattle.ix_stages.specs.declared.lanes.LaneOut.{LaneOut}
 use Rattle.ix_stages.specs.Received.{Inserts}
 use Rattle.ix_stages.specs.declared.lanes.LaneIn.{LaneIn}
-use Rattle.ix_archive.specs.Events.{Calls}
-use Rattle.ix_archive.specs.Headline.{Fact}
+use Rattle.ix_car.specs.Events.{Calls}
+use Rattle.ix_car.specs.Headline.{Fact}
 use Rattle.ix_pipeline.specs.declared.collector.Collector.{Collector}
 use Rattle.ix_pipeline.specs.Collected.{is_last, last_count}
 use Rattle.ix_pipeline.specs.Collecting.{CanCollect, GoesOn}

@@ -1,7 +1,7 @@
 -- One verifier more was joined.
 use Rattle.std.proofs.Common.{◌≡◌, ℕ, List, [], ◌∷◌, ◌++◌, ap, sym, subst, ◌∙◌, append_assoc, append-nil}
 use Rattle.ix_store.specs.Store.{Blocks}
-use Rattle.ix_archive.specs.Headline.{checked_by}
+use Rattle.ix_car.specs.Headline.{checked_by}
 use Rattle.ix_stages.specs.declared.item.Item.{Item}
 use Rattle.ix_stages.specs.declared.verdicted.Verdicted.{Verdicted}
 use Rattle.ix_stages.specs.declared.pass_view.PassView.{PassView}

@@ -1,6 +1,6 @@
 -- The fact of each sink is kept, and what is in a list.
 use Rattle.std.proofs.Common.{◌≡◌, ℕ, zero, suc, List, [], ◌∷◌, get_or, set, sym, subst}
-use Rattle.ix_archive.specs.Headline.{Fact, Keeps, EachKept}
+use Rattle.ix_car.specs.Headline.{Fact, Keeps, EachKept}
 
 module _ {S About : Type 0} (guarantee : Fact S About) where
   -- no call keeps each fact

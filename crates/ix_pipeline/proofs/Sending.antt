@@ -7,9 +7,9 @@ use Rattle.ix_walk.specs.declared.visit.Visit.{Visit}
 use Rattle.ix_store.specs.Store.{Blocks}
 use Rattle.ix_walk.specs.JobMeaning.{JobMeaning}
 use Rattle.ix_verdict.specs.declared.verdict.Verdict.{Verdict}
-use Rattle.ix_archive.specs.declared.sink.Delivery.{Delivery}
-use Rattle.ix_archive.specs.declared.sink.End.{End}
-use Rattle.ix_archive.specs.Verified.{judged}
+use Rattle.ix_car.specs.declared.sink.Delivery.{Delivery}
+use Rattle.ix_car.specs.declared.sink.End.{End}
+use Rattle.ix_car.specs.Verified.{judged}
 use Rattle.ix_stages.specs.declared.item.Item.{Item}
 use Rattle.ix_stages.specs.declared.item.Item.TheVariants as taken
 use Rattle.ix_stages.specs.declared.verdicted.Verdicted.{Verdicted}

@@ -7,13 +7,13 @@ use Rattle.std.proofs.lemmas.List.Elements.{All-cons}
 use Rattle.ix_store.specs.Store.{Blocks}
 use Rattle.ix_walk.specs.JobMeaning.{JobMeaning}
 use Rattle.ix_walk.specs.Visits.{is_over_limit}
-use Rattle.ix_archive.specs.declared.sink.Delivery.{Delivery}
-use Rattle.ix_archive.specs.declared.sink.End.{End}
-use Rattle.ix_archive.specs.declared.sink.End.TheVariants.{Memory, Start}
-use Rattle.ix_archive.specs.Events.{Event, Calls, delivery, close}
-use Rattle.ix_archive.specs.Verified.{judged_visits}
-use Rattle.ix_archive.specs.Faithful.{IsFaithful, EndFits}
-use Rattle.ix_archive.specs.Headline.{EachDelivered, EachFresh, Fact, Keeps, EachKept, IsCheckedOnce, IsEachOnce, AllWalked, IsWalkedAt, visit_count}
+use Rattle.ix_car.specs.declared.sink.Delivery.{Delivery}
+use Rattle.ix_car.specs.declared.sink.End.{End}
+use Rattle.ix_car.specs.declared.sink.End.TheVariants.{Memory, Start}
+use Rattle.ix_car.specs.Events.{Event, Calls, delivery, close}
+use Rattle.ix_car.specs.Verified.{judged_visits}
+use Rattle.ix_car.specs.Faithful.{IsFaithful, EndFits}
+use Rattle.ix_car.specs.Headline.{EachDelivered, EachFresh, Fact, Keeps, EachKept, IsCheckedOnce, IsEachOnce, AllWalked, IsWalkedAt, visit_count}
 use Rattle.ix_pipeline.proofs.Members.{cases_cons, none_in}
 use Rattle.ix_pipeline.proofs.Kept.{kept_same}
 use Rattle.ix_pipeline.specs.declared.flowing.Outcome.{Outcome}

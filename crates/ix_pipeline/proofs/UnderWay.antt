@@ -10,12 +10,12 @@ use Rattle.ix_walk.specs.WalkLeft.{WalkLeft, GivesNext}
 use Rattle.ix_walk.specs.Visits.{visits_of, is_over_limit}
 use Rattle.ix_check.specs.Visits.{IsVisitOf}
 use Rattle.ix_check.proofs.VisitsOf.{visit_next}
-use Rattle.ix_archive.specs.declared.sink.Delivery.{Delivery}
-use Rattle.ix_archive.specs.declared.sink.End.{End}
-use Rattle.ix_archive.specs.declared.sink.End.TheVariants.{Done, Limit, Memory, Write, Start}
-use Rattle.ix_archive.specs.Events.{Event, Calls, delivery, close, IsOpen}
-use Rattle.ix_archive.specs.Verified.{judged, judged_visits}
-use Rattle.ix_archive.specs.Faithful.{EndFits}
+use Rattle.ix_car.specs.declared.sink.Delivery.{Delivery}
+use Rattle.ix_car.specs.declared.sink.End.{End}
+use Rattle.ix_car.specs.declared.sink.End.TheVariants.{Done, Limit, Memory, Write, Start}
+use Rattle.ix_car.specs.Events.{Event, Calls, delivery, close, IsOpen}
+use Rattle.ix_car.specs.Verified.{judged, judged_visits}
+use Rattle.ix_car.specs.Faithful.{EndFits}
 use Rattle.ix_pipeline.specs.declared.sink_state.SinkState.{SinkState}
 use Rattle.ix_pipeline.specs.declared.sink_state.SinkState.TheVariants.{Taking, Failed}
 use Rattle.ix_pipeline.specs.Progress.{end_on, Told, CanHand, Checks, HandsOn, pairs_of, IsWalked, Exports}

@@ -5,8 +5,8 @@ use Rattle.std.specs.Global.{Vec}
 use Rattle.ix_store.specs.Store.{Blocks}
 use Rattle.ix_walk.specs.JobMeaning.{JobMeaning}
 use Rattle.ix_walk.specs.declared.job.Job.{Job}
-use Rattle.ix_archive.specs.Events.{Calls}
-use Rattle.ix_archive.specs.Headline.{Fact}
+use Rattle.ix_car.specs.Events.{Calls}
+use Rattle.ix_car.specs.Headline.{Fact}
 use Rattle.ix_stages.specs.JobWalks.{WalksMeaning}
 use Rattle.ix_pipeline.specs.declared.flowing.Outcome.{Outcome}
 use Rattle.ix_pipeline.specs.declared.plan.Plan.{Plan}

@@ -1,7 +1,7 @@
 -- Sinks that were closed with one end.
 use Rattle.std.specs.Prelude.{◌≡◌, List, [], ◌∷◌}
-use Rattle.ix_archive.specs.declared.sink.End.{End}
-use Rattle.ix_archive.specs.Events.{Calls, close}
+use Rattle.ix_car.specs.declared.sink.End.{End}
+use Rattle.ix_car.specs.Events.{Calls, close}
 
 module _ {S : Type 0} (calls : S → Calls) (end : End) where
   -- each sink was closed with this end, and received nothing else

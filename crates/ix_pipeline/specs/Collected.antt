@@ -3,8 +3,8 @@ use Rattle.std.specs.Prelude.{◌≡◌, ◌≤◌, ◌⊎◌, ℕ, zero, suc, �
 use Rattle.std.specs.List.{AllByRecursion}
 use Rattle.ix_store.specs.Store.{Blocks}
 use Rattle.ix_walk.specs.JobMeaning.{JobMeaning}
-use Rattle.ix_archive.specs.declared.sink.End.{End}
-use Rattle.ix_archive.specs.Events.{Calls}
+use Rattle.ix_car.specs.declared.sink.End.{End}
+use Rattle.ix_car.specs.Events.{Calls}
 use Rattle.ix_stages.specs.declared.verdicted.Verdicted.{Verdicted}
 use Rattle.ix_pipeline.specs.declared.job_progress.JobProgress.{JobProgress}
 use Rattle.ix_pipeline.specs.declared.collector.Collector.{Collector}

@@ -2,9 +2,9 @@
 use Rattle.std.specs.Prelude.{◌≡◌, ℕ, false, List, ◌++◌, length, Some}
 use Rattle.ix_store.specs.Store.{Blocks}
 use Rattle.ix_walk.specs.JobMeaning.{JobMeaning}
-use Rattle.ix_archive.specs.declared.sink.End.{End}
-use Rattle.ix_archive.specs.Events.{Calls}
-use Rattle.ix_archive.specs.Headline.{EachDelivered, EachKept, Fact, IsCheckedOnce, NoneIsStart}
+use Rattle.ix_car.specs.declared.sink.End.{End}
+use Rattle.ix_car.specs.Events.{Calls}
+use Rattle.ix_car.specs.Headline.{EachDelivered, EachKept, Fact, IsCheckedOnce, NoneIsStart}
 use Rattle.ix_stages.specs.declared.lanes.LaneIn.{LaneIn}
 use Rattle.ix_stages.specs.declared.lanes.LaneOut.{LaneOut}
 use Rattle.ix_stages.specs.declared.verdicted.Verdicted.{Verdicted}

@@ -2,7 +2,7 @@
 use Rattle.std.specs.Prelude.{◌≡◌, ℕ, List, length, vec_len, Result, IfOk, IfErr}
 use Rattle.std.specs.Global.{Vec}
 use Rattle.ix_walk.specs.JobMeaning.{JobMeaning, AreFew}
-use Rattle.ix_archive.specs.Events.{Calls}
+use Rattle.ix_car.specs.Events.{Calls}
 use Rattle.ix_stages.specs.JobWalks.{WalksMeaning}
 use Rattle.ix_pipeline.specs.declared.flowing.Outcome.{Outcome}
 use Rattle.ix_pipeline.specs.declared.plan.Plan.{Plan}

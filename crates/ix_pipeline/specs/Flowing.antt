@@ -1,7 +1,7 @@
 -- What a flow is given, and what it leaves.
 use Rattle.std.specs.Prelude.{ℕ, ◌<◌, List, length, Contains}
-use Rattle.ix_archive.specs.Events.{Calls}
-use Rattle.ix_archive.specs.Headline.{EachDelivered, EachKept, Fact, IsCheckedOnce, NoneOrAllStart, IsEachOnce, checked_by, visit_count}
+use Rattle.ix_car.specs.Events.{Calls}
+use Rattle.ix_car.specs.Headline.{EachDelivered, EachKept, Fact, IsCheckedOnce, NoneOrAllStart, IsEachOnce, checked_by, visit_count}
 use Rattle.ix_stages.specs.declared.shared.Shared.{Shared}
 use Rattle.ix_stages.specs.declared.shared.Task.{Task}
 use Rattle.ix_stages.specs.Shared.{jobs_of}

@@ -1,10 +1,10 @@
 -- How far the export of a job has come.
 use Rattle.std.specs.Prelude.{◌≡◌, ◌≤◌, ◌<◌, ℕ, zero, suc, ◌+◌, Bool, true, false, List, [], ◌∷◌, ◌++◌, length, take, drop, map, Option, Some, None, slice_get}
-use Rattle.ix_archive.specs.declared.sink.Delivery.{Delivery}
-use Rattle.ix_archive.specs.declared.sink.End.{End}
-use Rattle.ix_archive.specs.declared.sink.End.TheVariants.{Memory, Write, Start}
-use Rattle.ix_archive.specs.Events.{Event, delivery, close, IsOpen}
-use Rattle.ix_archive.specs.Faithful.{EndFits}
+use Rattle.ix_car.specs.declared.sink.Delivery.{Delivery}
+use Rattle.ix_car.specs.declared.sink.End.{End}
+use Rattle.ix_car.specs.declared.sink.End.TheVariants.{Memory, Write, Start}
+use Rattle.ix_car.specs.Events.{Event, delivery, close, IsOpen}
+use Rattle.ix_car.specs.Faithful.{EndFits}
 use Rattle.ix_stages.specs.declared.verdicted.Verdicted.{Verdicted}
 use Rattle.ix_stages.specs.declared.verdicted.Verdicted.TheVariants.{Checked, Unchecked, Close, Last}
 use Rattle.ix_pipeline.specs.declared.job_progress.JobProgress.{JobProgress}

@@ -6,13 +6,13 @@ use Rattle.ix_walk.specs.declared.visit.Visit.{Visit}
 use Rattle.ix_store.specs.Store.{Blocks}
 use Rattle.ix_walk.specs.JobMeaning.{JobMeaning}
 use Rattle.ix_walk.specs.Visits.{visits_of, is_over_limit}
-use Rattle.ix_archive.specs.declared.sink.Delivery.{Delivery}
-use Rattle.ix_archive.specs.declared.sink.End.{End}
-use Rattle.ix_archive.specs.declared.sink.End.TheVariants.{Memory, Start, Write}
-use Rattle.ix_archive.specs.Events.{Calls, delivery, IsOpen}
-use Rattle.ix_archive.specs.Headline.{Fact, Keeps}
-use Rattle.ix_archive.specs.Verified.{judged, judged_visits}
-use Rattle.ix_archive.specs.Faithful.{IsFaithful, EndFits}
+use Rattle.ix_car.specs.declared.sink.Delivery.{Delivery}
+use Rattle.ix_car.specs.declared.sink.End.{End}
+use Rattle.ix_car.specs.declared.sink.End.TheVariants.{Memory, Start, Write}
+use Rattle.ix_car.specs.Events.{Calls, delivery, IsOpen}
+use Rattle.ix_car.specs.Headline.{Fact, Keeps}
+use Rattle.ix_car.specs.Verified.{judged, judged_visits}
+use Rattle.ix_car.specs.Faithful.{IsFaithful, EndFits}
 use Rattle.ix_pipeline.specs.declared.sink_state.SinkState.{SinkState}
 use Rattle.ix_pipeline.specs.declared.sink_state.SinkState.TheVariants.{Taking, Failed}
 

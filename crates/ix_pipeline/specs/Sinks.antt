@@ -1,9 +1,9 @@
 -- The sinks with which a flow begins.
 use Rattle.std.specs.Prelude.{◌≡◌, ◌≤◌, ℕ, List, [], length, vec_capacity}
 use Rattle.std.specs.Global.{Vec}
-use Rattle.ix_archive.specs.declared.sink.End.{End}
-use Rattle.ix_archive.specs.Events.{Calls}
-use Rattle.ix_archive.specs.Headline.{EachFresh}
+use Rattle.ix_car.specs.declared.sink.End.{End}
+use Rattle.ix_car.specs.Events.{Calls}
+use Rattle.ix_car.specs.Headline.{EachFresh}
 
 module _ {S : Type 0} (calls : S → Calls) where
   -- so many sinks, none of which received anything

@@ -1,8 +1,8 @@
 -- What each step does to the export of a job: how far it has come, if what came fits its visits.
 use Rattle.std.specs.Prelude.{◌≡◌, Bool, true, List, Option, None}
-use Rattle.ix_archive.specs.declared.sink.Delivery.{Delivery}
-use Rattle.ix_archive.specs.Events.{Event, Calls}
-use Rattle.ix_archive.specs.Headline.{Fact, Keeps}
+use Rattle.ix_car.specs.declared.sink.Delivery.{Delivery}
+use Rattle.ix_car.specs.Events.{Event, Calls}
+use Rattle.ix_car.specs.Headline.{Fact, Keeps}
 use Rattle.ix_stages.specs.declared.verdicted.Verdicted.{Verdicted}
 use Rattle.ix_stages.specs.Received.{Tally}
 use Rattle.ix_pipeline.specs.declared.job_progress.JobProgress.{JobProgress}

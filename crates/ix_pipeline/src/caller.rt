@@ -2,8 +2,8 @@
 //! verifiers, and receives the rest.
 
 ghost use Rattle.std.specs.Prelude.{◌≡◌, ◌≤◌, [], All, length, vec_len, IfOk};
-ghost use Rattle.ix_archive.specs.declared.sink.End.TheVariants.{Start};
-ghost use Rattle.ix_archive.specs.Headline.{EachKept};
+ghost use Rattle.ix_car.specs.declared.sink.End.TheVariants.{Start};
+ghost use Rattle.ix_car.specs.Headline.{EachKept};
 ghost use Rattle.ix_stages.specs.Claims.{IsOfClaims};
 ghost use Rattle.ix_stages.specs.Course.{course_of};
 ghost use Rattle.ix_stages.specs.Lanes.{all_received};
@@ -22,7 +22,7 @@ use crate::flowing::Outcome;
 use crate::verifying::{StartFacts, Verifier, start_verifier};
 use crate::walking::start_walker;
 use crate::{Collector, drain_all, law, poll_lanes};
-use ix_archive::{End, Sink};
+use ix_car::{End, Sink};
 use ix_check::Check;
 use ix_stages::{
     Backoff, ClaimSeat, Gate, JobSeat, LaneIn, LaneOut, Shared, StopSeat, TakeSeat, VisitQueue,

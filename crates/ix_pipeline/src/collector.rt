@@ -1,13 +1,13 @@
 //! Receives what the verifiers send, and calls each job's sink.
 
 ghost use Rattle.std.specs.Prelude.{◌≡◌, ◌≤◌, [], length, IfOk, IsTrue, ◌↔◌, vec_capacity, true, false};
-ghost use Rattle.ix_archive.specs.Headline.{EachKept};
+ghost use Rattle.ix_car.specs.Headline.{EachKept};
 ghost use Rattle.ix_stages.specs.Received.{job_of};
 ghost use Rattle.ix_pipeline.specs.Collected.{job_count, has_unexpected, IsUnused, IsDone, MayTell, HasEnds, HasRoom};
 ghost use Rattle.ix_pipeline.specs.Collecting.{CollectsItem, IfStray};
 
 use crate::job_progress::JobProgress;
-use ix_archive::{End, Sink};
+use ix_car::{End, Sink};
 use ix_stages::Verdicted;
 use std::alloc::{AllocError, Global};
 

@@ -11,7 +11,7 @@ ghost use Rattle.ix_pipeline.specs.Planned.{IsPlan};
 use crate::flowing::flow;
 use crate::preparing::Prepared;
 use crate::{Outcome, Plan};
-use ix_archive::{Sink, law};
+use ix_car::{Sink, law};
 use ix_check::Check;
 use ix_stages::{Gate, JobWalks, Open, Task};
 use ix_store::Store;

@@ -7,7 +7,7 @@ ghost use Rattle.ix_pipeline.specs.Sinks.{AreFreshSinks};
 
 use crate::caller::Caller;
 use crate::preparing::Prepared;
-use ix_archive::{End, Sink};
+use ix_car::{End, Sink};
 use ix_check::Check;
 use ix_stages::{Gate, Shared, Task};
 use std::alloc::Global;

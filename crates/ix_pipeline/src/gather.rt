@@ -8,7 +8,7 @@ ghost use Rattle.ix_pipeline.specs.Received.{HasCounted, IsHeldBack};
 ghost use Rattle.ix_pipeline.specs.Collecting.{CanCollect, CanFinish, CollectsAmong, CollectsAfter};
 
 use crate::collector::Collector;
-use ix_archive::Sink;
+use ix_car::Sink;
 use ix_stages::{LaneIn, LaneOut, Verdicted, lane_rest};
 use std::alloc::Global;
 use std::sync::Wait;

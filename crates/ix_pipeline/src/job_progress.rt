@@ -1,7 +1,7 @@
 //! What was received of one job, and how far its sink has come.
 
 ghost use Rattle.std.specs.Prelude.{◌≡◌, ◌+◌, Some, false, IfOk, IsTrue, ◌↔◌, unwrap_or};
-ghost use Rattle.ix_archive.specs.declared.sink.End.TheVariants.{Memory};
+ghost use Rattle.ix_car.specs.declared.sink.End.TheVariants.{Memory};
 ghost use Rattle.ix_pipeline.specs.declared.job_progress.Stage.TheVariants.{Delivering};
 ghost use Rattle.ix_pipeline.specs.declared.job_progress.WalkEnd.{WalkEnd};
 ghost use Rattle.ix_pipeline.specs.Numbered.{IsFree};
@@ -11,7 +11,7 @@ ghost use Rattle.ix_pipeline.specs.Steps.{HasCome, HasDelivered, HasFinished, Is
 ghost use Rattle.ix_pipeline.specs.Steps.{IsDeliveringTo, IsOpenFor, IsSafeFor, KeepsOpen, KeepsSafe};
 
 use crate::Ring;
-use ix_archive::{Delivery, End, Sink, SinkFault};
+use ix_car::{Delivery, End, Sink, SinkFault};
 use ix_stages::Verdicted;
 use std::alloc::{AllocError, Global};
 

@@ -3,7 +3,7 @@
 ghost use Rattle.ix_pipeline.specs.Laws.{GivesGood, IsOnceEach, IsWithinVisits};
 ghost use Rattle.ix_pipeline.specs.Laws.{BeginsSafe, BeginsCollected, GivesExported};
 
-use ix_archive::Sink;
+use ix_car::Sink;
 
 /// States that what is sent for good items is good.
 pub fn sent_for_good()

@@ -8,7 +8,7 @@ ghost use Rattle.ix_pipeline.specs.Headline.{EachDelivered, EachArchived, Keeps,
 ghost use Rattle.ix_pipeline.specs.Headline.{IsCheckedOnce, NoneIsStart};
 
 use crate::sink_state::SinkState;
-use ix_archive::{End, Sink, SinkFault, law};
+use ix_car::{End, Sink, SinkFault, law};
 use ix_check::{Check, Verdict};
 use ix_store::Store;
 use ix_walk::{Job, Visit, Walk, WalkStop};

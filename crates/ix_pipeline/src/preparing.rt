@@ -2,7 +2,7 @@
 
 ghost use Rattle.std.specs.Prelude.{◌≡◌, ◌<◌, ◌≤◌, All, vec_len, IfOk, IfErr, OnErr};
 ghost use Rattle.ix_walk.specs.JobMeaning.{AreFew};
-ghost use Rattle.ix_archive.specs.Headline.{EachUnused};
+ghost use Rattle.ix_car.specs.Headline.{EachUnused};
 ghost use Rattle.ix_stages.specs.Lanes.{IsNewLane};
 ghost use Rattle.ix_pipeline.specs.Prepared.{IsPrepared, verifier_count, walker_count};
 

@@ -3,7 +3,7 @@
 ghost use Rattle.std.specs.Prelude.{◌≡◌};
 ghost use Rattle.ix_pipeline.specs.Progress.{end_on};
 
-use ix_archive::End;
+use ix_car::End;
 
 /// What happens to the visits of a job that are still to come.
 #[derive(Drop, Clone, Copy, PartialEq, Eq)]

@@ -21,15 +21,15 @@ use Rattle.ix_walk.proofs.Firsts.{In, filter-both, filter-in, in-filter, in-firs
 use Rattle.ix_walk.proofs.Links.{cid_of}
 use Rattle.ix_verdict.specs.declared.verdict.Verdict.TheVariants.{Codec, Damaged, Malformed, Sound}
 use Rattle.ix_check.specs.Verdict.{verdict_by, has_codec, verdict_with}
-use Rattle.ix_archive.specs.Verified.{all_judged}
-use Rattle.ix_archive.specs.Restoring.{pair_with, difference_pairs}
-use Rattle.ix_archive.specs.Archive.{Known, is_sound, first_sound, sections_of, new_sections}
-use Rattle.ix_archive.specs.KnownPlaces.{knows}
-use Rattle.ix_archive.specs.Laws.{once}
-use Rattle.ix_archive.proofs.SoundValues.{value_by}
-use Rattle.ix_archive.specs.declared.sink.Delivery.{Delivery}
-use Rattle.ix_archive.proofs.GoingOnce.{cid_told, map-filter, first_sound-cids, sound-block, visits-cids, visits-judged}
-use Rattle.ix_archive.proofs.Visited.{IsSameInside, once-same}
+use Rattle.ix_car.specs.Verified.{all_judged}
+use Rattle.ix_car.specs.Restoring.{pair_with, difference_pairs}
+use Rattle.ix_car.specs.Archive.{Known, is_sound, first_sound, sections_of, new_sections}
+use Rattle.ix_car.specs.KnownPlaces.{knows}
+use Rattle.ix_car.specs.Laws.{once}
+use Rattle.ix_car.proofs.SoundValues.{value_by}
+use Rattle.ix_car.specs.declared.sink.Delivery.{Delivery}
+use Rattle.ix_car.proofs.GoingOnce.{cid_told, map-filter, first_sound-cids, sound-block, visits-cids, visits-judged}
+use Rattle.ix_car.proofs.Visited.{IsSameInside, once-same}
 use Rattle.ix_receive.specs.Own.{archive_pairs, AreTheirOwn}
 use Rattle.ix_receive.specs.Receiving.{new_cids}
 use Rattle.ix_receive.proofs.Lookup.{pair_in, pair-found, pair-absent}

@@ -6,9 +6,9 @@ use Rattle.std.proofs.lemmas.Slice.Eq.{bytes_eq-Decides}
 use Rattle.ix_cid.specs.Cid.{parts_of, digest_of, hash_function_of}
 use Rattle.ix_cbor.specs.Reading.{data_at}
 use Rattle.ix_store.specs.Store.{Blocks, has_cid, block_of, bytes_by, is_dag_cbor, value_of}
-use Rattle.ix_archive.specs.Archive.{is_known}
-use Rattle.ix_archive.specs.KnownPlaces.{knows}
-use Rattle.ix_archive.proofs.GoingOnce.{sound-block}
+use Rattle.ix_car.specs.Archive.{is_known}
+use Rattle.ix_car.specs.KnownPlaces.{knows}
+use Rattle.ix_car.proofs.GoingOnce.{sound-block}
 use Rattle.ix_walk.specs.Once.{first_ones}
 use Rattle.ix_walk.proofs.Firsts.{In, in-first_ones}
 use Rattle.ix_receive.specs.Own.{base_known}

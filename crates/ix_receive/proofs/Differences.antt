@@ -14,11 +14,11 @@ use Rattle.ix_walk.proofs.Firsts.{In}
 use Rattle.ix_walk.proofs.Links.{cid_of}
 use Rattle.ix_walk.proofs.Reaches.{contains-in}
 use Rattle.ix_check.specs.Verdict.{verdict_with}
-use Rattle.ix_archive.specs.Archive.{is_sound, difference_of}
-use Rattle.ix_archive.specs.KnownPlaces.{knows, known_by}
-use Rattle.ix_archive.specs.Laws.{once}
-use Rattle.ix_archive.proofs.Restored.{pairs-bytes}
-use Rattle.ix_archive.proofs.Visited.{once-same}
+use Rattle.ix_car.specs.Archive.{is_sound, difference_of}
+use Rattle.ix_car.specs.KnownPlaces.{knows, known_by}
+use Rattle.ix_car.specs.Laws.{once}
+use Rattle.ix_car.proofs.Restored.{pairs-bytes}
+use Rattle.ix_car.proofs.Visited.{once-same}
 use Rattle.ix_receive.specs.Own.{archive_bytes, base_known, AreTheirOwnWith, IsItsOwnWith}
 use Rattle.ix_receive.specs.Base.{known_blocks, HasWhatIsKnown}
 use Rattle.ix_receive.proofs.Fresh.{outside, fresh, fresh-is, in-fresh, fresh-in}

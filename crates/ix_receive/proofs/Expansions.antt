@@ -30,7 +30,7 @@ use Rattle.ix_walk.specs.Once.{is_sound_by, sound_value}
 use Rattle.ix_walk.specs.Walking.{waiting, Going, nothing_expanded, expanded_also, data_inside, expanded_after, links_inside}
 use Rattle.ix_walk.specs.Expansion.{AreLinksIn}
 use Rattle.ix_receive.specs.Waiting.{IsPutBefore}
-use Rattle.ix_archive.specs.Archive.{is_sound}
+use Rattle.ix_car.specs.Archive.{is_sound}
 use Rattle.ix_receive.specs.Traversal.{AreSound, expanded_by, Expands}
 
 -- ---- sound sections

@@ -3,7 +3,7 @@ use Rattle.std.proofs.Common.{◌≡◌, inl, inr, ℕ, Bool, true, false, List,
 use Rattle.std.specs.Prelude.{Option, Some, None, is_some, if◌then◌else◌, ◌||◌, bytes_eq}
 use Rattle.std.proofs.lemmas.Slice.Eq.{bytes_eq-Decides}
 use Rattle.ix_store.specs.Store.{Blocks, has_cid, block_of}
-use Rattle.ix_archive.specs.Restoring.{pair_with}
+use Rattle.ix_car.specs.Restoring.{pair_with}
 use Rattle.ix_walk.proofs.Firsts.{In}
 
 -- the pair of a CID in a store, if it has a block

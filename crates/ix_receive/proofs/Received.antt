@@ -19,11 +19,11 @@ use Rattle.ix_walk.proofs.Firsts.{In, filter-both, in-filter}
 use Rattle.ix_walk.proofs.Links.{cid_of, all-append, all-right}
 use Rattle.ix_walk.proofs.Reaches.{contains-in, in-contains}
 use Rattle.ix_check.specs.Verdict.{verdict_with}
-use Rattle.ix_archive.specs.Archive.{is_sound}
-use Rattle.ix_archive.specs.KnownPlaces.{knows}
-use Rattle.ix_archive.specs.Restoring.{pair_with}
-use Rattle.ix_archive.specs.Laws.{once}
-use Rattle.ix_archive.proofs.Visited.{IsSameInside, once-same}
+use Rattle.ix_car.specs.Archive.{is_sound}
+use Rattle.ix_car.specs.KnownPlaces.{knows}
+use Rattle.ix_car.specs.Restoring.{pair_with}
+use Rattle.ix_car.specs.Laws.{once}
+use Rattle.ix_car.proofs.Visited.{IsSameInside, once-same}
 use Rattle.ix_receive.specs.Own.{base_known, AreTheirOwnWith}
 use Rattle.ix_receive.specs.Receiving.{first_visits, AreReceived, IsNextSection}
 use Rattle.ix_receive.proofs.Firsts.{AreApart, filter-apart, not-before, IsFirstOf, first-of, same-before}

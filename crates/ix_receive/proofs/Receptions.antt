@@ -30,8 +30,8 @@ use Rattle.ix_walk.proofs.Links.{cid_of, all-append}
 use Rattle.ix_walk.proofs.Reaches.{contains-in, in-contains}
 use Rattle.ix_walk.proofs.Starts.{IsFollowed}
 use Rattle.ix_receive.specs.Waiting.{all_waiting, IsNextLink}
-use Rattle.ix_archive.specs.Archive.{is_sound}
-use Rattle.ix_archive.specs.Laws.{once}
+use Rattle.ix_car.specs.Archive.{is_sound}
+use Rattle.ix_car.specs.Laws.{once}
 use Rattle.ix_receive.specs.declared.allow_missing.AllowMissing.{AllowMissing}
 use Rattle.ix_receive.specs.declared.counts.Counts.{Counts}
 use Rattle.ix_receive.specs.declared.traversal.Traversal.{Traversal}

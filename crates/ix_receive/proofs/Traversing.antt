@@ -20,7 +20,7 @@ use Rattle.ix_walk.specs.Walking.{waiting, Going, nothing_expanded, data_inside,
 use Rattle.ix_walk.proofs.Links.{cid_of}
 use Rattle.ix_walk.proofs.Reached.{forget, once_first, all_append, all_inside}
 use Rattle.ix_walk.proofs.Starts.{IsFollowed}
-use Rattle.ix_archive.specs.Laws.{once}
+use Rattle.ix_car.specs.Laws.{once}
 use Rattle.ix_receive.specs.Receiving.{first_visits}
 use Rattle.ix_receive.specs.Traversal.{visited, HasSameAt, GoesOnWith, IsTraversed}
 use Rattle.ix_receive.proofs.Again.{value_in}

@@ -12,7 +12,7 @@ use Rattle.ix_verdict.specs.declared.needed.Needed.TheVariants.{Nothing, Block}
 use Rattle.ix_verdict.specs.Needed.{needed_by, needed_of}
 use Rattle.ix_store.specs.Store.{Blocks, has_cid, block_of}
 use Rattle.ix_check.specs.Verdict.{verdict_of}
-use Rattle.ix_archive.specs.Archive.{is_sound}
+use Rattle.ix_car.specs.Archive.{is_sound}
 use Rattle.ix_receive.specs.Traversal.{AreSound}
 use Rattle.ix_receive.specs.Roots.{RootsPass}
 use Rattle.ix_receive.proofs.Lookup.{no-block}

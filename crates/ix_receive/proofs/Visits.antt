@@ -6,7 +6,7 @@ use Rattle.ix_cbor.specs.Data.{Data}
 use Rattle.ix_selector.specs.Enters.{Path}
 use Rattle.ix_walk.specs.Arrivals.{Arrival, Inside, when_some}
 use Rattle.ix_walk.specs.Once.{links_below, was_expanded, expanded_at, expanded_after, once}
-use Rattle.ix_archive.proofs.Visited.{IsSameInside}
+use Rattle.ix_car.proofs.Visited.{IsSameInside}
 
 module _ {R : Type 0} (enters : Path → Bool) (rest : Path → R) (same : R → R → Bool) where
   -- one visit more depends only on what is expanded at those before it

@@ -7,9 +7,9 @@ use Rattle.ix_store.specs.Store.{Blocks, block_of}
 use Rattle.ix_walk.specs.JobMeaning.{JobMeaning}
 use Rattle.ix_walk.specs.Once.{cids_of}
 use Rattle.ix_walk.specs.Visits.{arrivals_of, is_over_limit}
-use Rattle.ix_archive.specs.Archive.{is_sound, is_known, difference_of}
-use Rattle.ix_archive.specs.KnownPlaces.{knows, known_by}
-use Rattle.ix_archive.specs.Laws.{once}
+use Rattle.ix_car.specs.Archive.{is_sound, is_known, difference_of}
+use Rattle.ix_car.specs.KnownPlaces.{knows, known_by}
+use Rattle.ix_car.specs.Laws.{once}
 use Rattle.ix_receive.specs.Own.{base_known, IsItsOwnWith}
 use Rattle.ix_receive.specs.Receiving.{sections_at}
 use Rattle.ix_receive.specs.Traversal.{AreSound}

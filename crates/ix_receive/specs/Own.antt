@@ -6,10 +6,10 @@ use Rattle.ix_verdict.specs.Verdict.{verdict_with}
 use Rattle.ix_store.specs.Store.{Blocks, has_cid}
 use Rattle.ix_walk.specs.JobMeaning.{JobMeaning}
 use Rattle.ix_walk.specs.Visits.{is_over_limit}
-use Rattle.ix_car.specs.Writing.{header_of, section_with}
-use Rattle.ix_archive.specs.Archive.{Known, is_sound, archive_of}
-use Rattle.ix_archive.specs.Restoring.{difference_pairs}
-use Rattle.ix_archive.specs.Laws.{once}
+use Rattle.ix_sections.specs.Writing.{header_of, section_with}
+use Rattle.ix_car.specs.Archive.{Known, is_sound, archive_of}
+use Rattle.ix_car.specs.Restoring.{difference_pairs}
+use Rattle.ix_car.specs.Laws.{once}
 
 -- the archive of roots and sections, each a CID and its block
 abbrev pub archive_bytes : List (List ℕ) → Blocks → List ℕ

@@ -9,10 +9,10 @@ use Rattle.ix_walk.specs.JobMeaning.{JobMeaning}
 use Rattle.ix_walk.specs.Arrivals.{Arrival}
 use Rattle.ix_walk.specs.Visits.{is_over_limit}
 use Rattle.ix_walk.specs.Once.{cids_of, first_ones, once_from, sound_value}
-use Rattle.ix_archive.specs.Archive.{Known, is_sound}
-use Rattle.ix_archive.specs.KnownPlaces.{knows}
-use Rattle.ix_archive.specs.Restoring.{pair_with}
-use Rattle.ix_archive.specs.Laws.{once}
+use Rattle.ix_car.specs.Archive.{Known, is_sound}
+use Rattle.ix_car.specs.KnownPlaces.{knows}
+use Rattle.ix_car.specs.Restoring.{pair_with}
+use Rattle.ix_car.specs.Laws.{once}
 use Rattle.ix_receive.specs.Own.{base_known, AreTheirOwnWith}
 
 -- the first visits of a job with link-visit-once over a store, so many of them

@@ -6,7 +6,7 @@ ghost use Rattle.ix_store.specs.Store.{Blocks};
 ghost use Rattle.ix_receive.specs.Receiving.{ReceivedAreTheirOwn, OwnAreReceived};
 ghost use Rattle.ix_receive.specs.Base.{KnownBlocksAreKnown, DifferenceIsItsOwn};
 
-use ix_archive::law;
+use ix_car::law;
 
 /// States that the archive of a job within its limit is its own archive for the job with
 /// link-visit-once: over any store, whatever is skipped, and whichever way the job was traversed.

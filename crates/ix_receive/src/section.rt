@@ -1,7 +1,7 @@
 //! The verdict on a section.
 
 ghost use Rattle.std.specs.Prelude.{◌≡◌};
-ghost use Rattle.ix_archive.specs.Archive.{is_sound};
+ghost use Rattle.ix_car.specs.Archive.{is_sound};
 
 use ix_verdict::Verdict;
 

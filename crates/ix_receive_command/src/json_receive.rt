@@ -3,7 +3,7 @@
 use crate::rejection::Rejection;
 use crate::stream::{Ended, Outcome};
 use crate::visit_paths::StopPlace;
-use ix_archive::{Counts, End};
+use ix_car::{Counts, End};
 use ix_check::Verdict;
 use ix_cli_io::ErrorCode;
 use ix_jobs::JobResult;

@@ -1,12 +1,12 @@
 //! Where the paths of roots lead, as blocks come.
 
-use ix_car::{Section, read_header, read_section};
 use ix_check::{Verdict, verdict_in};
 use ix_cid::Cid;
 use ix_cid::code::DAG_CBOR;
 use ix_cli_io::{ErrorCode, Stop};
 use ix_load::{at_root, obstacle_stop};
 use ix_path::{Kind, Obstacle, RootPath, resolve};
+use ix_sections::{Section, read_header, read_section};
 use ix_store::Store;
 use std::alloc::{AllocError, Global};
 use std::collections::BTreeSet;

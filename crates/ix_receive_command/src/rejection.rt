@@ -1,12 +1,12 @@
 //! Why a stream is rejected.
 
 use crate::visit_paths::StopPlace;
-use ix_car::CarKind;
 use ix_check::Verdict;
 use ix_cid::Cid;
 use ix_cli_io::{ErrorCode, Stop};
 use ix_load::{at_root, code_of_verdict};
 use ix_own_archive::{ArchiveReason, ReceiveFault, StreamFault, StreamReason};
+use ix_sections::CarKind;
 use std::alloc::{AllocError, Global};
 
 /// Why a stream is rejected, and where.

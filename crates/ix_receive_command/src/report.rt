@@ -3,7 +3,7 @@
 use crate::json_receive::{accepted_objects, other_objects, push_ended};
 use crate::stream::{Ended, Outcome};
 use crate::visit_paths::{ListedVisits, StopPlace, first_visit};
-use ix_archive::{Counts, End, Skip};
+use ix_car::{Counts, End, Skip};
 use ix_cid::HashFunction;
 use ix_cli_io::print_report;
 use ix_jobs::{JobResult, report, report_with_absent};

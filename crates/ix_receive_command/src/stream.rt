@@ -3,8 +3,7 @@
 use crate::path_watch::{PathStop, PathWatch};
 use crate::rejection::Rejection;
 use crate::visit_paths::{add_base, unread_visits};
-use ix_archive::Skip;
-use ix_car::{CarKind, header_of, read_header, read_section};
+use ix_car::Skip;
 use ix_cid::read_varint;
 use ix_cli_io::Progress;
 use ix_options::words_of;
@@ -13,6 +12,7 @@ use ix_own_archive::{
     StreamReceiver,
 };
 use ix_read_ahead::ReadAhead;
+use ix_sections::{CarKind, header_of, read_header, read_section};
 use ix_store::Store;
 use ix_verify::{Kind, kind_of};
 use ix_walk::Job;

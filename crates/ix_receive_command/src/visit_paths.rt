@@ -1,7 +1,7 @@
 //! Which visits of an archive are skips, and the option `--paths`: where these are, where blocks are missing,
 //! and where a stream stopped.
 
-use ix_archive::Skip;
+use ix_car::Skip;
 use ix_check::{Verdict, verdict_in};
 use ix_cid::Cid;
 use ix_cid::code::DAG_CBOR;

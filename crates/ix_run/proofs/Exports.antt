@@ -4,15 +4,15 @@ use Rattle.std.specs.Prelude.{Option, None, Some, Ok, take}
 use Rattle.std.proofs.lemmas.List.{take_all}
 use Rattle.ix_store.specs.Store.{Blocks}
 use Rattle.ix_walk.specs.JobMeaning.{JobMeaning}
-use Rattle.ix_archive.specs.declared.sink.Delivery.{Delivery}
-use Rattle.ix_archive.specs.declared.sink.End.{End}
-use Rattle.ix_archive.specs.declared.sink.End.TheVariants.{Done, Limit, Memory, Write, Start}
-use Rattle.ix_archive.specs.Faithful.{EndFits}
-use Rattle.ix_archive.specs.Kept.{kept}
-use Rattle.ix_archive.specs.Verified.{judged_visits}
-use Rattle.ix_archive.specs.Archive.{archive_with}
-use Rattle.ix_archive.specs.ArchiveMeaning.{HasWritten}
-use Rattle.ix_car.specs.Reading.{◌>>=◌, blocks_of}
+use Rattle.ix_car.specs.declared.sink.Delivery.{Delivery}
+use Rattle.ix_car.specs.declared.sink.End.{End}
+use Rattle.ix_car.specs.declared.sink.End.TheVariants.{Done, Limit, Memory, Write, Start}
+use Rattle.ix_car.specs.Faithful.{EndFits}
+use Rattle.ix_car.specs.Kept.{kept}
+use Rattle.ix_car.specs.Verified.{judged_visits}
+use Rattle.ix_car.specs.Archive.{archive_with}
+use Rattle.ix_car.specs.ArchiveMeaning.{HasWritten}
+use Rattle.ix_sections.specs.Reading.{◌>>=◌, blocks_of}
 use Rattle.ix_jobs.specs.declared.results.JobResult.{JobResult}
 use Rattle.ix_run.specs.Root.{root_job, exported, exported_from, is_whole_end}
 use Rattle.ix_run.specs.Run.{IsEndOf, IsRun}

@@ -4,19 +4,19 @@ use Rattle.std.specs.Prelude.{Option, Some, None}
 use Rattle.std.specs.Io.KnownBytes as known
 use Rattle.ix_store.specs.Store.{Blocks}
 use Rattle.ix_walk.specs.JobMeaning.{JobMeaning}
-use Rattle.ix_archive.specs.declared.sink.End.{End}
-use Rattle.ix_archive.specs.declared.sink.End.TheVariants as ends
-use Rattle.ix_archive.specs.Events.{delivery, close, deliveries_of}
-use Rattle.ix_archive.specs.Faithful.{IsFaithful}
-use Rattle.ix_archive.specs.Archive.{Known}
-use Rattle.ix_archive.specs.ArchiveMeaning.{ArchiveMeaning, HasArchived, HasWrittenWithout, IsBegun, IsCountOf, events_of, calls_of}
-use Rattle.ix_archive.specs.Archived.{IsArchived}
-use Rattle.ix_archive.specs.Report.{counts_of}
+use Rattle.ix_car.specs.declared.sink.End.{End}
+use Rattle.ix_car.specs.declared.sink.End.TheVariants as ends
+use Rattle.ix_car.specs.Events.{delivery, close, deliveries_of}
+use Rattle.ix_car.specs.Faithful.{IsFaithful}
+use Rattle.ix_car.specs.Archive.{Known}
+use Rattle.ix_car.specs.ArchiveMeaning.{ArchiveMeaning, HasArchived, HasWrittenWithout, IsBegun, IsCountOf, events_of, calls_of}
+use Rattle.ix_car.specs.Archived.{IsArchived}
+use Rattle.ix_car.specs.Report.{counts_of}
 use Rattle.ix_jobs.specs.declared.results.JobResult.{JobResult}
 use Rattle.ix_pipeline.specs.Headline.{EachDelivered, EachArchived, Keeps, EachKept, EachFresh}
 use Rattle.std.proofs.Math.Seq.{take-append_seam}
 use Rattle.std.proofs.lemmas.Option.{same_Some}
-use Rattle.ix_archive.proofs.Archives.{told-back, written-tells}
+use Rattle.ix_car.proofs.Archives.{told-back, written-tells}
 use Rattle.ix_run.specs.Run.{IsEndOf, IsRun, EachRun, EachBegun, IsEnded, EachEnded}
 use Rattle.ix_run.proofs.Told.{same_deliveries}
 

@@ -2,7 +2,7 @@
 use Rattle.std.specs.Prelude.{ℕ, List, ◌++◌, codes}
 use Rattle.std.specs.Fmt.{decimal}
 use Rattle.ix_cid.specs.FaultWords.{fault_words}
-use Rattle.ix_car.specs.FaultWords as car
+use Rattle.ix_sections.specs.FaultWords as car
 use Rattle.ix_jobs.specs.FaultWords as jobs
 use Rattle.ix_run.specs.declared.fault.RunFault.{RunFault}
 use Rattle.ix_run.specs.declared.fault.RunFault.TheVariants.{Hex, Root, Car, Jobs, Write, Memory}

@@ -5,8 +5,8 @@ use Rattle.std.specs.Global.{Global, Vec}
 use Rattle.std.specs.declared.sync.Arc.{Arc}
 use Rattle.ix_store.specs.Store.{Blocks}
 use Rattle.ix_walk.specs.JobMeaning.{JobMeaning, AreFew}
-use Rattle.ix_car.specs.Reading.{blocks_of}
-use Rattle.ix_car.specs.Gives as car
+use Rattle.ix_sections.specs.Reading.{blocks_of}
+use Rattle.ix_sections.specs.Gives as car
 use Rattle.ix_jobs.specs.Gives as jobs
 use Rattle.ix_jobs.specs.declared.fault.JobErrorKind.{JobErrorKind}
 use Rattle.ix_run.specs.declared.fault.RunFault.{RunFault}

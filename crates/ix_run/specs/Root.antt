@@ -3,13 +3,13 @@ use Rattle.std.specs.Prelude.{ℕ, Bool, true, false, List, [], ◌∷◌, codes
 use Rattle.ix_selector.specs.Pattern.{matcher}
 use Rattle.ix_store.specs.Store.{Blocks}
 use Rattle.ix_walk.specs.JobMeaning.{JobMeaning}
-use Rattle.ix_archive.specs.declared.sink.End.{End}
-use Rattle.ix_archive.specs.declared.sink.End.TheVariants.{Done, Limit, Memory, Write, Start}
-use Rattle.ix_archive.specs.Kept.{kept}
-use Rattle.ix_archive.specs.Verified.{judged_visits}
-use Rattle.ix_archive.specs.Archive.{archive_with}
-use Rattle.ix_car.specs.Reading.{Fault, ◌>>=◌, blocks_of}
-use Rattle.ix_car.specs.Gives.{IsFaultOf}
+use Rattle.ix_car.specs.declared.sink.End.{End}
+use Rattle.ix_car.specs.declared.sink.End.TheVariants.{Done, Limit, Memory, Write, Start}
+use Rattle.ix_car.specs.Kept.{kept}
+use Rattle.ix_car.specs.Verified.{judged_visits}
+use Rattle.ix_car.specs.Archive.{archive_with}
+use Rattle.ix_sections.specs.Reading.{Fault, ◌>>=◌, blocks_of}
+use Rattle.ix_sections.specs.Gives.{IsFaultOf}
 use Rattle.ix_run.specs.declared.fault.RunFault.{RunFault}
 use Rattle.ix_run.specs.declared.fault.RunFault.TheVariants as faults
 

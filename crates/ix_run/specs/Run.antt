@@ -7,15 +7,15 @@ use Rattle.std.specs.Io.KnownBytes.{Keeps}
 use Rattle.ix_store.specs.Store.{Blocks}
 use Rattle.ix_store.specs.declared.places.PlaceSet.{PlaceSet}
 use Rattle.ix_walk.specs.JobMeaning.{JobMeaning, AreFew}
-use Rattle.ix_archive.specs.declared.sink.Delivery.{Delivery}
-use Rattle.ix_archive.specs.declared.sink.End.{End}
-use Rattle.ix_archive.specs.declared.sink.End.TheVariants as ends
-use Rattle.ix_archive.specs.Events.{delivery, close}
-use Rattle.ix_archive.specs.Faithful.{IsFaithful}
-use Rattle.ix_archive.specs.Archive.{Known, known_at, difference_of}
-use Rattle.ix_archive.specs.ArchiveMeaning.{ArchiveMeaning, known_in, HasArchived, HasWrittenWithout, IsBegun, IsCountOf}
-use Rattle.ix_archive.specs.Archived.{IsBeginning}
-use Rattle.ix_archive.specs.Report.{skips_of, counts_of}
+use Rattle.ix_car.specs.declared.sink.Delivery.{Delivery}
+use Rattle.ix_car.specs.declared.sink.End.{End}
+use Rattle.ix_car.specs.declared.sink.End.TheVariants as ends
+use Rattle.ix_car.specs.Events.{delivery, close}
+use Rattle.ix_car.specs.Faithful.{IsFaithful}
+use Rattle.ix_car.specs.Archive.{Known, known_at, difference_of}
+use Rattle.ix_car.specs.ArchiveMeaning.{ArchiveMeaning, known_in, HasArchived, HasWrittenWithout, IsBegun, IsCountOf}
+use Rattle.ix_car.specs.Archived.{IsBeginning}
+use Rattle.ix_car.specs.Report.{skips_of, counts_of}
 use Rattle.ix_jobs.specs.declared.results.JobResult.{JobResult}
 use Rattle.ix_jobs.specs.Report.{report_of, status_of}
 use Rattle.ix_run.specs.declared.fault.RunFault.{RunFault}

@@ -6,7 +6,7 @@ ghost use Rattle.ix_jobs.specs.Report.{is_done};
 ghost use Rattle.ix_jobs.specs.Missing.{is_root};
 ghost use Rattle.ix_run.specs.Complete.{is_complete};
 
-use ix_archive::{End, Skip};
+use ix_car::{End, Skip};
 use ix_jobs::{JobResult, is_root};
 use ix_walk::Job;
 

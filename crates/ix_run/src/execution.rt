@@ -3,9 +3,9 @@
 ghost use Rattle.std.specs.Prelude.{◌≡◌, [], ◌∷◌, None, length, vec_len, IfOk, IfErr};
 ghost use Rattle.std.specs.Arc.{arc_value};
 ghost use Rattle.std.specs.Io.KnownBytes.{Keeps};
-ghost use Rattle.ix_archive.specs.Archive.{known_at};
-ghost use Rattle.ix_archive.specs.ArchiveMeaning.{borrowed};
-ghost use Rattle.ix_archive.specs.Headline.{EachUnused, IsUnusedCheck};
+ghost use Rattle.ix_car.specs.Archive.{known_at};
+ghost use Rattle.ix_car.specs.ArchiveMeaning.{borrowed};
+ghost use Rattle.ix_car.specs.Headline.{EachUnused, IsUnusedCheck};
 ghost use Rattle.ix_pipeline.specs.Exporting.{CanExport, HasExported};
 ghost use Rattle.ix_pipeline.specs.Planned.{IsPlan};
 ghost use Rattle.ix_run.specs.Run.{
@@ -22,7 +22,7 @@ ghost use Rattle.ix_run.specs.Run.{
 
 use crate::fault::RunFault;
 use crate::observer::{Observed, Observer, Unobserved};
-use ix_archive::{Archive, ArchiveNew, End, Sink};
+use ix_car::{Archive, ArchiveNew, End, Sink};
 use ix_check::{Check, PlainCheck};
 use ix_jobs::{JobResult, report, status};
 use ix_pipeline::{JobWalks, NotStarted, Outcome, Plan, Prefetch, export_plain, export_walks};

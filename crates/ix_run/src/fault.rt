@@ -3,9 +3,9 @@
 ghost use Rattle.std.specs.Prelude.{◌≡◌, IfOk, string_bytes};
 ghost use Rattle.ix_run.specs.FaultLine.{line_of};
 
-use ix_car::CarFault;
 use ix_cid::CidFault;
 use ix_jobs::JobsFault;
+use ix_sections::CarFault;
 use std::alloc::{AllocError, AllocFailed, Global};
 use thiserror::Error;
 

@@ -1,10 +1,10 @@
 //! The observer of a run in progress.
 
 ghost use Rattle.std.specs.Prelude.{◌≡◌};
-ghost use Rattle.ix_archive.specs.ArchiveMeaning.{known_in};
-ghost use Rattle.ix_archive.specs.Report.{skips_of, counts_of};
+ghost use Rattle.ix_car.specs.ArchiveMeaning.{known_in};
+ghost use Rattle.ix_car.specs.Report.{skips_of, counts_of};
 
-use ix_archive::{Archive, Counts, End, Sink, SinkFault, Skip};
+use ix_car::{Archive, Counts, End, Sink, SinkFault, Skip};
 use ix_check::Verdict;
 use ix_walk::Visit;
 use std::alloc::Global;
@@ -46,7 +46,7 @@ pub struct Observed<'a, W: Write, V: Observer> {
 }
 
 impl<'a, W: Write, V: Observer> Model for Observed<'a, W, V> {
-    ghost use Rattle.ix_archive.specs.ArchiveMeaning.{ArchiveMeaning};
+    ghost use Rattle.ix_car.specs.ArchiveMeaning.{ArchiveMeaning};
 
     ghost Value = { ArchiveMeaning W };
 
@@ -79,8 +79,8 @@ impl<'a, W: Write, V: Observer> Observed<'a, W, V> {
 }
 
 impl<'a, W: Write, V: Observer> Sink for Observed<'a, W, V> {
-    ghost use Rattle.ix_archive.specs.Archive.{Known};
-    ghost use Rattle.ix_archive.specs.ArchiveMeaning.{calls_of, HasArchived};
+    ghost use Rattle.ix_car.specs.Archive.{Known};
+    ghost use Rattle.ix_car.specs.ArchiveMeaning.{calls_of, HasArchived};
 
     ghost calls = { calls_of };
 

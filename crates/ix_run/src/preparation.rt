@@ -6,8 +6,8 @@ ghost use Rattle.ix_jobs.specs.Jobs.{jobs_of};
 ghost use Rattle.ix_run.specs.Prepare.{IsFilesRefusal, IsLoaded};
 
 use crate::fault::RunFault;
-use ix_car::read_car;
 use ix_jobs::read_jobs;
+use ix_sections::read_car;
 use ix_store::Store;
 use ix_walk::Job;
 use std::alloc::{AllocError, Global};

@@ -4,9 +4,9 @@ ghost use Rattle.std.specs.Prelude.{◌≡◌, IfOk, IfErr, Ok};
 ghost use Rattle.ix_run.specs.Root.{root_job, exported_from, is_whole_end, IsRefusalOf};
 
 use crate::{RunFault, run_one};
-use ix_archive::End;
-use ix_car::read_car;
+use ix_car::End;
 use ix_cid::Cid;
+use ix_sections::read_car;
 use ix_selector::Selector;
 use ix_walk::Job;
 use std::alloc::{AllocError, Global};

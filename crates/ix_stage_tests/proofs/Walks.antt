@@ -7,7 +7,7 @@ use Rattle.ix_store.specs.Store.{Blocks}
 use Rattle.ix_walk.specs.declared.visit.Visit.{Visit}
 use Rattle.ix_walk.specs.JobMeaning.{JobMeaning}
 use Rattle.ix_walk.specs.WalkLeft.{WalkLeft, GivesNext}
-use Rattle.ix_archive.specs.declared.sink.End.{End}
+use Rattle.ix_car.specs.declared.sink.End.{End}
 use Rattle.ix_walk.specs.Visits.{whole_walk}
 use Rattle.ix_stages.specs.Course.{course_of, course_visits, course_over}
 use Rattle.ix_stages.specs.CourseLaws.{IsSized, HasVisits, HasOver, AllowsVisits}

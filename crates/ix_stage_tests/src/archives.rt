@@ -1,10 +1,10 @@
 //! Archives of deliveries that are given by hand, through writers that take little.
 
 ghost use Rattle.std.specs.Prelude.{◌≡◌, []};
-ghost use Rattle.ix_archive.specs.Events.{IsOpen};
-ghost use Rattle.ix_archive.specs.ArchiveMeaning.{events_of};
+ghost use Rattle.ix_car.specs.Events.{IsOpen};
+ghost use Rattle.ix_car.specs.ArchiveMeaning.{events_of};
 
-use ix_archive::{Archive, ArchiveNew, Counts, End, Sink, SinkFault, Skip};
+use ix_car::{Archive, ArchiveNew, Counts, End, Sink, SinkFault, Skip};
 use ix_check::Verdict;
 use ix_fixtures::{
     ABC, ABC_SECTION, DAMAGED, DAMAGED_SECTION, LIST, LIST_SECTION, ONE_LINK, ONE_LINK_SECTION,

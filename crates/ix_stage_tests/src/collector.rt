@@ -1,10 +1,10 @@
 //! A collector that receives what verifiers send, in mixed order.
 
 ghost use Rattle.std.specs.Prelude.{◌<◌, IfOk};
-ghost use Rattle.ix_archive.specs.Headline.{EachFresh};
+ghost use Rattle.ix_car.specs.Headline.{EachFresh};
 ghost use Rattle.ix_stages.specs.Lanes.{IsLane};
 
-use ix_archive::{End, Sink};
+use ix_car::{End, Sink};
 use ix_check::Verdict;
 use ix_fixtures::{ABC, Log, cid_of};
 use ix_pipeline::{Collector, drain_all, drain_lane, law, poll_lanes};

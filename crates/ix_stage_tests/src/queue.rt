@@ -10,7 +10,7 @@ ghost use Rattle.ix_stages.specs.Seats.{IsNext, closed_after, next_after};
 ghost use Rattle.ix_stage_tests.specs.Walkers.{CanWalk, CanAllWalk, CanGoOn, CanClose, HasLeft, IsLeft};
 ghost use Rattle.ix_stage_tests.specs.Walkers.{AreSmall, IsOneJob, IsSameTable, IsWalker, IsTaker, HasWalked};
 
-use ix_archive::End;
+use ix_car::End;
 use ix_check::{ShaCheck, Verdict};
 use ix_fixtures::{INNER_BLOCK, ONE_LINK, OUTER, TURNS, chain_of, jobs_of, store_of};
 use ix_stages::{

@@ -5,7 +5,7 @@ use Rattle.ix_store.specs.Store.{Blocks}
 use Rattle.ix_walk.specs.JobMeaning.{JobMeaning}
 use Rattle.ix_walk.specs.Visits.{visits_of, is_over_limit}
 use Rattle.ix_check.specs.Visits.{IsVisitOf}
-use Rattle.ix_archive.specs.declared.sink.End.{End}
+use Rattle.ix_car.specs.declared.sink.End.{End}
 use Rattle.ix_stages.specs.declared.course.JobVisits.{JobVisits}
 use Rattle.ix_stages.specs.declared.item.Item.{Item}
 use Rattle.ix_stages.specs.declared.item.Item.TheVariants as item

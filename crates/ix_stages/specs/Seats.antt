@@ -1,7 +1,7 @@
 -- What contracts see of the seats.
 use Rattle.std.specs.Prelude.{◌≡◌, ℕ, ◌+◌, ◌-◌, ◌≤◌, ◌<◌, Bool, true, false, List, [], ◌∷◌, ◌++◌, length, Some, None}
 use Rattle.atomic_table.specs.Seated.{TableId}
-use Rattle.ix_archive.specs.declared.sink.End.{End}
+use Rattle.ix_car.specs.declared.sink.End.{End}
 use Rattle.ix_stages.specs.declared.item.Item.{Item}
 use Rattle.ix_stages.specs.declared.item.Item.TheVariants as item
 use Rattle.ix_stages.specs.declared.course.JobVisits.{JobVisits}

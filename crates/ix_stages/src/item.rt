@@ -1,6 +1,6 @@
 //! Items of the visit queue.
 
-use ix_archive::End;
+use ix_car::End;
 use ix_walk::Visit;
 
 /// An item that walkers put and verifiers take.

@@ -1,6 +1,6 @@
 //! What verifiers send.
 
-use ix_archive::End;
+use ix_car::End;
 use ix_check::Verdict;
 use ix_walk::Visit;
 

@@ -8,7 +8,7 @@ ghost use Rattle.ix_stages.specs.Walking.{IsReadyIn, CanClaim};
 use crate::gate::Gate;
 use crate::shared::Shared;
 use crate::{ClaimSeat, Item, JobSeat, law};
-use ix_archive::End;
+use ix_car::End;
 use ix_walk::{Job, WalkStop};
 use std::alloc::Global;
 use std::sync::Wait;

@@ -2,8 +2,6 @@
 
 ghost use Rattle.std.specs.Prelude.{◌≡◌, ◌<◌, [], false, length, map, slice_get, Some, IfOk, ◌==◌};
 ghost use Rattle.std.specs.Prelude.{get_or};
-ghost use Rattle.std.specs.Arc.{arc_value};
-ghost use Rattle.ix_store.specs.Table.{part_of};
 ghost use Rattle.ix_store.specs.Index.{IsIndexed};
 ghost use Rattle.ix_store.specs.Memo.{hash_matches, is_malformed};
 ghost use Rattle.ix_store.specs.Store.{Adds, IsPlaceIn, position_of};
@@ -13,11 +11,10 @@ use crate::digest::hash_matches;
 use crate::index::{Index, holds, key_of};
 use crate::judged::JudgedTable;
 use crate::memo::Memo;
-use crate::table::{BlockTable, has_fault, part};
+use crate::table::{BlockTable, has_fault};
 use ix_cid::Cid;
 use std::alloc::{AllocError, Global};
 use std::marker::Model;
-use std::sync::Arc;
 
 /// An in-memory blockstore: blocks under their CIDs, seen as the list of pairs in the order of
 /// adding.
@@ -104,20 +101,6 @@ impl Store {
         ensures { Adds self.old self.new cid bytes.items result }
     {
         self.add_copy(cid, bytes.as_slice())
-    }
-
-    /// Adds a copy of a block of `size` bytes that is in shared bytes from `start` on, unless its CID
-    /// is there. Blocks of a file aren't copied by a `StoreBuilder`.
-    pub fn add_within(
-        &mut self,
-        cid: Cid,
-        bytes: &Arc<Vec<u8>>,
-        start: usize,
-        size: usize,
-    ) -> Result<bool, AllocError>
-        ensures { Adds self.old self.new cid (part_of (arc_value bytes.now).items start size) result }
-    {
-        self.add_copy(cid, part(bytes.as_slice(), start, size))
     }
 
     /// Adds a copy of a block, unless its CID is there: then nothing is copied.

@@ -4,11 +4,11 @@ use Rattle.std.specs.Prelude.{Option, Some, None, Result, Ok, All, flat_map, not
 use Rattle.std.proofs.lemmas.List.Elements.{All-nil, All-cons, All-head, All-tail}
 use Rattle.ix_store.specs.Store.{Blocks, block_of}
 use Rattle.ix_verdict.specs.declared.verdict.Verdict.{Verdict}
-use Rattle.ix_archive.specs.declared.sink.Delivery.{Delivery}
-use Rattle.ix_car.specs.Writing.{header_of}
-use Rattle.ix_archive.specs.Archive.{is_sound, first_sound, section_of, archive_with}
-use Rattle.ix_car.specs.Reading.{Fault}
-use Rattle.ix_car.specs.Sections.{SectionMeaning, placed, section_list, roots_of}
+use Rattle.ix_car.specs.declared.sink.Delivery.{Delivery}
+use Rattle.ix_sections.specs.Writing.{header_of}
+use Rattle.ix_car.specs.Archive.{is_sound, first_sound, section_of, archive_with}
+use Rattle.ix_sections.specs.Reading.{Fault}
+use Rattle.ix_sections.specs.Sections.{SectionMeaning, placed, section_list, roots_of}
 use Rattle.ix_verify.specs.declared.found.Outcome.{Outcome}
 use Rattle.ix_verify.specs.declared.found.Findings.{Findings}
 use Rattle.ix_verify.specs.declared.found.Unsound.{Unsound}

@@ -5,14 +5,14 @@ use Rattle.std.specs.Borrow.{Bor}
 use Rattle.std.specs.Global.{Vec}
 use Rattle.std.proofs.lemmas.List.{map-append, map_push, length-map}
 use Rattle.std.proofs.lemmas.List.Elements.{filter-append}
-use Rattle.ix_car.specs.declared.fault.CarKind.{CarKind}
-use Rattle.ix_car.specs.declared.reader.sections.Section.{Section}
-use Rattle.ix_car.specs.Gives.{FailsAs}
-use Rattle.ix_car.specs.Reading.{Fault, ◌>>=◌, section_at, header_at}
-use Rattle.ix_car.specs.SectionView.{section_of, views_of}
-use Rattle.ix_car.specs.Sections.{SectionMeaning, placed, sections_after, sections_in, section_list}
-use Rattle.ix_car.proofs.SectionLists.{sections_after-enough, ListGoesOn, ListGoesOn-first, ListGoesOn-more, ListGoesOn-fails, ListGoesOn-last, FailsAs-of}
-use Rattle.ix_archive.specs.Archive.{is_sound}
+use Rattle.ix_sections.specs.declared.fault.CarKind.{CarKind}
+use Rattle.ix_sections.specs.declared.reader.sections.Section.{Section}
+use Rattle.ix_sections.specs.Gives.{FailsAs}
+use Rattle.ix_sections.specs.Reading.{Fault, ◌>>=◌, section_at, header_at}
+use Rattle.ix_sections.specs.SectionView.{section_of, views_of}
+use Rattle.ix_sections.specs.Sections.{SectionMeaning, placed, sections_after, sections_in, section_list}
+use Rattle.ix_sections.proofs.SectionLists.{sections_after-enough, ListGoesOn, ListGoesOn-first, ListGoesOn-more, ListGoesOn-fails, ListGoesOn-last, FailsAs-of}
+use Rattle.ix_car.specs.Archive.{is_sound}
 use Rattle.ix_verify.specs.declared.noted.Noted.{Noted}
 use Rattle.ix_verify.specs.declared.found.Unsound.{Unsound}
 use Rattle.ix_verify.specs.Outcome.{section_finding}

@@ -7,21 +7,21 @@ use Rattle.ix_store.specs.Sound.{AreSound, first_copies}
 use Rattle.ix_store.specs.declared.places.PlaceSet.{PlaceSet}
 use Rattle.ix_walk.specs.JobMeaning.{JobMeaning}
 use Rattle.ix_check.specs.Verdict.{verdict_with}
-use Rattle.ix_car.specs.Copies.{copies_of}
-use Rattle.ix_car.specs.Writing.{header_of}
-use Rattle.ix_car.specs.Reading.{Fault, ◌>>=◌, blocks_after}
-use Rattle.ix_car.specs.Sections.{SectionMeaning, section_list, roots_of, with_sections, with_first_of_each}
-use Rattle.ix_car.proofs.SectionLists.{blocks-after_sections}
-use Rattle.ix_archive.specs.declared.sink.End.TheVariants.{Done}
-use Rattle.ix_archive.specs.Archive.{Known, known_at, is_sound, new_sections, difference_of}
-use Rattle.ix_archive.specs.ArchiveMeaning.{ArchiveMeaning, HasArchived, calls_of}
-use Rattle.ix_archive.specs.Faithful.{IsFaithful}
-use Rattle.ix_archive.specs.KnownPlaces.{knows, known_by, IsKnownIn}
-use Rattle.ix_archive.specs.Restoring.{difference_pairs, AgreesWith, IsWithoutSkips, IsRestoredBy}
-use Rattle.ix_archive.specs.Verified.{verified}
-use Rattle.ix_archive.proofs.Archives.{archive-whole}
-use Rattle.ix_archive.proofs.KnownBlocks.{places-of-base}
-use Rattle.ix_archive.proofs.Restored.{pairs-bytes, difference-first, base-first}
+use Rattle.ix_sections.specs.Copies.{copies_of}
+use Rattle.ix_sections.specs.Writing.{header_of}
+use Rattle.ix_sections.specs.Reading.{Fault, ◌>>=◌, blocks_after}
+use Rattle.ix_sections.specs.Sections.{SectionMeaning, section_list, roots_of, with_sections, with_first_of_each}
+use Rattle.ix_sections.proofs.SectionLists.{blocks-after_sections}
+use Rattle.ix_car.specs.declared.sink.End.TheVariants.{Done}
+use Rattle.ix_car.specs.Archive.{Known, known_at, is_sound, new_sections, difference_of}
+use Rattle.ix_car.specs.ArchiveMeaning.{ArchiveMeaning, HasArchived, calls_of}
+use Rattle.ix_car.specs.Faithful.{IsFaithful}
+use Rattle.ix_car.specs.KnownPlaces.{knows, known_by, IsKnownIn}
+use Rattle.ix_car.specs.Restoring.{difference_pairs, AgreesWith, IsWithoutSkips, IsRestoredBy}
+use Rattle.ix_car.specs.Verified.{verified}
+use Rattle.ix_car.proofs.Archives.{archive-whole}
+use Rattle.ix_car.proofs.KnownBlocks.{places-of-base}
+use Rattle.ix_car.proofs.Restored.{pairs-bytes, difference-first, base-first}
 use Rattle.ix_verify.specs.Restored.{HasReadableDifference, blocks_after_all, AreReadAs, IsRestoredByFiles}
 use Rattle.ix_verify.specs.Written.{sections_with}
 use Rattle.ix_verify.proofs.PairsAgain.{text_of, HasCid, pairs-cids, pairs-copies, file-roots, file-sections}

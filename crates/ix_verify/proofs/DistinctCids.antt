@@ -5,11 +5,11 @@ use Rattle.std.proofs.lemmas.List.Folds.{list_any-append}
 use Rattle.std.proofs.lemmas.Slice.Eq.{bytes_eq-Decides}
 use Rattle.std.proofs.Math.Bool.{or-false}
 use Rattle.ix_store.specs.Store.{Blocks, has_cid, with_block}
-use Rattle.ix_car.specs.declared.fault.CarKind.{CarKind}
-use Rattle.ix_car.specs.declared.fault.CarKind.TheVariants.{Memory}
-use Rattle.ix_car.specs.Gives.{FailsAs}
-use Rattle.ix_car.specs.Reading.{Fault}
-use Rattle.ix_car.specs.Sections.{SectionMeaning, with_sections, with_first_of_each}
+use Rattle.ix_sections.specs.declared.fault.CarKind.{CarKind}
+use Rattle.ix_sections.specs.declared.fault.CarKind.TheVariants.{Memory}
+use Rattle.ix_sections.specs.Gives.{FailsAs}
+use Rattle.ix_sections.specs.Reading.{Fault}
+use Rattle.ix_sections.specs.Sections.{SectionMeaning, with_sections, with_first_of_each}
 use Rattle.ix_verify.specs.Tallied.{HasDistinct, cids_of, has_stood, repeats_after, repeats}
 
 -- a store with one more block has its CID and those before

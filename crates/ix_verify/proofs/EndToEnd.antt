@@ -3,9 +3,9 @@ use Rattle.std.proofs.Common.{◌≡◌, List, [], ◌∷◌, ◌++◌, refl, sy
 use Rattle.std.specs.Prelude.{flat_map}
 use Rattle.ix_store.specs.Store.{Blocks, with_block}
 use Rattle.ix_store.specs.Sound.{AreSound}
-use Rattle.ix_car.specs.Copies.{copy_of, copies_of}
-use Rattle.ix_car.specs.Sections.{SectionMeaning, with_sections}
-use Rattle.ix_car.proofs.Copies.{preferred-first, preferred-none-later}
+use Rattle.ix_sections.specs.Copies.{copy_of, copies_of}
+use Rattle.ix_sections.specs.Sections.{SectionMeaning, with_sections}
+use Rattle.ix_sections.proofs.Copies.{preferred-first, preferred-none-later}
 use Rattle.ix_verify.specs.declared.found.Copies.TheVariants.{First, Sound}
 use Rattle.ix_verify.specs.Beside.{with_copies_in}
 use Rattle.ix_verify.specs.Found.{with_files, copies_in, store_of, later_of}

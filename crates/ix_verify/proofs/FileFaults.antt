@@ -3,14 +3,14 @@ use Rattle.std.proofs.Common.{◌≡◌, ℕ, List, ◌∷◌, [], ◌++◌, ◌
 use Rattle.std.specs.Prelude.{Bool, Result, Ok, Err}
 use Rattle.ix_store.specs.Store.{Blocks}
 use Rattle.ix_store.specs.Sound.{sound_copies, later_count}
-use Rattle.ix_car.specs.declared.fault.CarFault.{CarFault}
-use Rattle.ix_car.specs.Reading.{Fault, blocks_after}
-use Rattle.ix_car.specs.Copies.{copies_of, with_copies}
-use Rattle.ix_car.specs.Gives.{IsFaultOf}
-use Rattle.ix_car.specs.Sections.{SectionMeaning, section_list, with_sections, with_first_of_each}
-use Rattle.ix_archive.specs.declared.archive.Skip.{Skip}
-use Rattle.ix_car.proofs.Sections.{FailsAs-along}
-use Rattle.ix_car.proofs.SectionLists.{blocks-after_sections}
+use Rattle.ix_sections.specs.declared.fault.CarFault.{CarFault}
+use Rattle.ix_sections.specs.Reading.{Fault, blocks_after}
+use Rattle.ix_sections.specs.Copies.{copies_of, with_copies}
+use Rattle.ix_sections.specs.Gives.{IsFaultOf}
+use Rattle.ix_sections.specs.Sections.{SectionMeaning, section_list, with_sections, with_first_of_each}
+use Rattle.ix_car.specs.declared.archive.Skip.{Skip}
+use Rattle.ix_sections.proofs.Sections.{FailsAs-along}
+use Rattle.ix_sections.proofs.SectionLists.{blocks-after_sections}
 use Rattle.ix_verify.specs.declared.noted.Noted.{Noted}
 use Rattle.ix_verify.specs.declared.found.AllowMissing.{AllowMissing}
 use Rattle.ix_verify.specs.declared.found.Copies.{Copies}

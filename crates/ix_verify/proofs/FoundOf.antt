@@ -4,7 +4,7 @@ use Rattle.std.specs.Prelude.{Ok}
 use Rattle.ix_store.specs.Store.{Blocks}
 use Rattle.ix_walk.specs.JobMeaning.{JobMeaning}
 use Rattle.ix_walk.specs.Once.{first_ones}
-use Rattle.ix_car.specs.Sections.{SectionMeaning, section_list, roots_of}
+use Rattle.ix_sections.specs.Sections.{SectionMeaning, section_list, roots_of}
 use Rattle.ix_verify.specs.declared.file.Judged.{Judged}
 use Rattle.ix_verify.specs.declared.reach.Reached.{Reached}
 use Rattle.ix_verify.specs.declared.found.AllowMissing.{AllowMissing}

@@ -8,9 +8,9 @@ use Rattle.ix_cbor.specs.Data.{Data, integer}
 use Rattle.ix_cbor.specs.Spelling.{head_of, item_count, items_spelling, items_nesting, nesting_of, key_spelling, link_spelling, spelling_of, AreSpellable, IsCanonical}
 use Rattle.ix_cbor.specs.Reading.{data_at}
 use Rattle.ix_cbor.proofs.Laws.{decoded-complete}
-use Rattle.ix_car.specs.Writing.{links_to, header_data, header_of}
-use Rattle.ix_car.specs.Reading.{Fault, ◌>>=◌, are_links, version_fault, header_fault, behind_header, header_at}
-use Rattle.ix_car.specs.Sections.{links_in, roots_in, roots_after, roots_of}
+use Rattle.ix_sections.specs.Writing.{links_to, header_data, header_of}
+use Rattle.ix_sections.specs.Reading.{Fault, ◌>>=◌, are_links, version_fault, header_fault, behind_header, header_at}
+use Rattle.ix_sections.specs.Sections.{links_in, roots_in, roots_after, roots_of}
 use Rattle.ix_verify.proofs.TextsAgain.{text_again}
 
 -- a link takes at least three bytes more than its CID

@@ -9,14 +9,14 @@ use Rattle.ix_cid.proofs.VarintLaws.{IsVarint-varint_of}
 use Rattle.ix_cid.proofs.GroupLaws.{some_group}
 use Rattle.ix_cbor.specs.Spelling.{spelling_of}
 use Rattle.ix_store.specs.Store.{Blocks, block_of}
-use Rattle.ix_archive.specs.declared.sink.Delivery.{Delivery}
-use Rattle.ix_archive.specs.Archive.{section_of}
-use Rattle.ix_archive.specs.Restoring.{pair_with}
-use Rattle.ix_car.specs.Copies.{copies_of}
-use Rattle.ix_car.specs.Writing.{with_length, header_data, header_of, section_with}
-use Rattle.ix_car.specs.Reading.{Fault, ◌>>=◌}
-use Rattle.ix_car.specs.Sections.{SectionMeaning, placed, sections_after, section_list, roots_of}
-use Rattle.ix_car.proofs.SectionLists.{with_next, ListGoesOn, ListGoesOn-first, ListGoesOn-more, ListGoesOn-last}
+use Rattle.ix_car.specs.declared.sink.Delivery.{Delivery}
+use Rattle.ix_car.specs.Archive.{section_of}
+use Rattle.ix_car.specs.Restoring.{pair_with}
+use Rattle.ix_sections.specs.Copies.{copies_of}
+use Rattle.ix_sections.specs.Writing.{with_length, header_data, header_of, section_with}
+use Rattle.ix_sections.specs.Reading.{Fault, ◌>>=◌}
+use Rattle.ix_sections.specs.Sections.{SectionMeaning, placed, sections_after, section_list, roots_of}
+use Rattle.ix_sections.proofs.SectionLists.{with_next, ListGoesOn, ListGoesOn-first, ListGoesOn-more, ListGoesOn-last}
 use Rattle.ix_verify.specs.Written.{section_where, sections_with, sections_from}
 use Rattle.ix_verify.proofs.TextsAgain.{section_again}
 use Rattle.ix_verify.proofs.HeaderAgain.{header_again, roots_again}

@@ -10,9 +10,9 @@ use Rattle.ix_cid.specs.declared.fault.CidFault.{CidFault}
 use Rattle.ix_cid.proofs.VarintLaws.{IsVarint-varint_of, varint_at-append}
 use Rattle.ix_cid.proofs.Results.{ok_same, bind_ok, bind_to}
 use Rattle.ix_cid.proofs.Cids.{parts_at-reads}
-use Rattle.ix_car.specs.declared.fault.CarKind.TheVariants.{Truncated}
-use Rattle.ix_car.specs.Writing.{with_length}
-use Rattle.ix_car.specs.Reading.{Fault, ◌>>=◌, fails, text_at, text_after, pair_of, section_at}
+use Rattle.ix_sections.specs.declared.fault.CarKind.TheVariants.{Truncated}
+use Rattle.ix_sections.specs.Writing.{with_length}
+use Rattle.ix_sections.specs.Reading.{Fault, ◌>>=◌, fails, text_at, text_after, pair_of, section_at}
 
 -- a text that is after its length
 after_again : (v text rest : List ℕ) → text_after ((v ++ text) ++ rest) (Ok (length text, length v)) ≡ Ok (text, rest)

@@ -14,9 +14,9 @@ use Rattle.ix_verdict.specs.declared.verdict.Verdict.TheVariants.{Codec, Hash, M
 use Rattle.ix_check.specs.Verdict.{verdict_of, passes}
 use Rattle.ix_check.specs.Visits.{IsVisitOf}
 use Rattle.ix_check.proofs.VisitsOf.{visit_next}
-use Rattle.ix_archive.specs.Verified.{judged}
-use Rattle.ix_archive.specs.declared.archive.Skip.{Skip}
-use Rattle.ix_archive.specs.declared.sink.Delivery.{Delivery}
+use Rattle.ix_car.specs.Verified.{judged}
+use Rattle.ix_car.specs.declared.archive.Skip.{Skip}
+use Rattle.ix_car.specs.declared.sink.Delivery.{Delivery}
 use Rattle.ix_verify.specs.declared.noted.Noted.{Noted}
 use Rattle.ix_verify.specs.Outcome.{link_finding}
 use Rattle.ix_verify.specs.Noting.{IsNoted, NotesMore}

@@ -26,14 +26,14 @@ use Rattle.ix_walk.proofs.Links.{all-weaker, all-both}
 use Rattle.ix_check.specs.Verdict.{has_codec, is_no_data, verdict_under, verdict_by, verdict_of, passes}
 use Rattle.ix_verdict.specs.declared.verdict.Verdict.{Verdict}
 use Rattle.ix_verdict.specs.declared.verdict.Verdict.TheVariants.{Codec, Hash, Damaged, Malformed, Sound}
-use Rattle.ix_archive.specs.declared.archive.Skip.{Skip}
-use Rattle.ix_archive.specs.declared.sink.Delivery.{Delivery}
-use Rattle.ix_car.specs.Writing.{header_of}
-use Rattle.ix_archive.specs.Archive.{is_sound, first_sound, section_of}
-use Rattle.ix_archive.specs.Report.{skips_of}
-use Rattle.ix_car.specs.Sections.{SectionMeaning, with_sections}
-use Rattle.ix_archive.specs.Verified.{judged, verified, judged_visits}
-use Rattle.ix_archive.proofs.Numbers.{kept-verified}
+use Rattle.ix_car.specs.declared.archive.Skip.{Skip}
+use Rattle.ix_car.specs.declared.sink.Delivery.{Delivery}
+use Rattle.ix_sections.specs.Writing.{header_of}
+use Rattle.ix_car.specs.Archive.{is_sound, first_sound, section_of}
+use Rattle.ix_car.specs.Report.{skips_of}
+use Rattle.ix_sections.specs.Sections.{SectionMeaning, with_sections}
+use Rattle.ix_car.specs.Verified.{judged, verified, judged_visits}
+use Rattle.ix_car.proofs.Numbers.{kept-verified}
 use Rattle.ix_verify.specs.Roots.{holder_of}
 use Rattle.ix_verify.specs.Found.{job_below, verified_job, roots_job, skip_of, is_absent, skips_below}
 use Rattle.ix_verify.specs.Written.{section_where, sections_from, written_sections}

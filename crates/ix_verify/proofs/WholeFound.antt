@@ -6,11 +6,11 @@ use Rattle.ix_store.specs.Store.{Blocks}
 use Rattle.ix_walk.specs.JobMeaning.{JobMeaning}
 use Rattle.ix_walk.specs.Once.{first_ones}
 use Rattle.ix_walk.specs.Visits.{is_over_limit}
-use Rattle.ix_archive.specs.Archive.{archive_of}
-use Rattle.ix_archive.specs.Report.{skips_of}
-use Rattle.ix_archive.specs.declared.archive.Skip.{Skip}
-use Rattle.ix_car.specs.Sections.{SectionMeaning, section_list, with_sections, roots_of}
-use Rattle.ix_archive.specs.Verified.{verified, judged_visits}
+use Rattle.ix_car.specs.Archive.{archive_of}
+use Rattle.ix_car.specs.Report.{skips_of}
+use Rattle.ix_car.specs.declared.archive.Skip.{Skip}
+use Rattle.ix_sections.specs.Sections.{SectionMeaning, section_list, with_sections, roots_of}
+use Rattle.ix_car.specs.Verified.{verified, judged_visits}
 use Rattle.ix_verify.specs.declared.found.Findings.{Findings}
 use Rattle.ix_verify.specs.declared.found.Unsound.{Unsound}
 use Rattle.ix_verify.specs.Noting.{IsNoted}

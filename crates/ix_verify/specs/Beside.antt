@@ -1,9 +1,9 @@
 -- The blocks of a file and of those beside it.
 use Rattle.std.specs.Prelude.{◌≡◌, ℕ, List, [], ◌∷◌, ◌++◌, Result, Ok, Err}
 use Rattle.ix_store.specs.Store.{Blocks}
-use Rattle.ix_car.specs.Reading.{Fault}
-use Rattle.ix_car.specs.Sections.{SectionMeaning}
-use Rattle.ix_car.specs.Copies.{copies_of}
+use Rattle.ix_sections.specs.Reading.{Fault}
+use Rattle.ix_sections.specs.Sections.{SectionMeaning}
+use Rattle.ix_sections.specs.Copies.{copies_of}
 use Rattle.ix_verify.specs.declared.found.Copies.{Copies}
 use Rattle.ix_verify.specs.Found.{store_of, later_of}
 

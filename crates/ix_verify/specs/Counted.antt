@@ -3,12 +3,12 @@ use Rattle.std.specs.Prelude.{◌≡◌, ℕ, ◌+◌, ◌-◌, ◌<◌, ◌≤�
 use Rattle.std.specs.Borrow.{Bor}
 use Rattle.std.specs.Global.{Vec}
 use Rattle.ix_verdict.specs.declared.verdict.Verdict.{Verdict}
-use Rattle.ix_car.specs.declared.reader.sections.Section.{Section}
-use Rattle.ix_archive.specs.Archive.{is_sound}
-use Rattle.ix_car.specs.declared.fault.CarFault.{CarFault}
-use Rattle.ix_car.specs.Gives.{FailsAs}
-use Rattle.ix_car.specs.Sections.{SectionMeaning, sections_after, section_list, roots_of}
-use Rattle.ix_car.specs.SectionView.{views_of}
+use Rattle.ix_sections.specs.declared.reader.sections.Section.{Section}
+use Rattle.ix_car.specs.Archive.{is_sound}
+use Rattle.ix_sections.specs.declared.fault.CarFault.{CarFault}
+use Rattle.ix_sections.specs.Gives.{FailsAs}
+use Rattle.ix_sections.specs.Sections.{SectionMeaning, sections_after, section_list, roots_of}
+use Rattle.ix_sections.specs.SectionView.{views_of}
 use Rattle.ix_verify.specs.Outcome.{section_finding}
 use Rattle.ix_verify.specs.Noting.{IsNoted}
 use Rattle.ix_verify.specs.Found.{unsound_of}

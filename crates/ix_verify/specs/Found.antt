@@ -10,14 +10,14 @@ use Rattle.ix_walk.specs.Visits.{is_over_limit}
 use Rattle.ix_walk.specs.Once.{first_ones}
 use Rattle.ix_check.specs.Verdict.{passes}
 use Rattle.ix_verdict.specs.Verdict.{is_missing}
-use Rattle.ix_archive.specs.declared.archive.Skip.{Skip}
-use Rattle.ix_archive.specs.declared.sink.Delivery.{Delivery}
-use Rattle.ix_archive.specs.Archive.{is_sound}
-use Rattle.ix_archive.specs.Verified.{judged_visits}
-use Rattle.ix_car.specs.declared.fault.CarFault.{CarFault}
-use Rattle.ix_car.specs.Copies.{copies_of}
-use Rattle.ix_car.specs.Gives.{IsFaultOf}
-use Rattle.ix_car.specs.Sections.{SectionMeaning, section_list, roots_of, with_sections}
+use Rattle.ix_car.specs.declared.archive.Skip.{Skip}
+use Rattle.ix_car.specs.declared.sink.Delivery.{Delivery}
+use Rattle.ix_car.specs.Archive.{is_sound}
+use Rattle.ix_car.specs.Verified.{judged_visits}
+use Rattle.ix_sections.specs.declared.fault.CarFault.{CarFault}
+use Rattle.ix_sections.specs.Copies.{copies_of}
+use Rattle.ix_sections.specs.Gives.{IsFaultOf}
+use Rattle.ix_sections.specs.Sections.{SectionMeaning, section_list, roots_of, with_sections}
 use Rattle.ix_verify.specs.Judged.{section_verdict}
 use Rattle.ix_verify.specs.Roots.{few_roots}
 use Rattle.ix_verify.specs.Outcome.{worse, outcome_at_limit, section_finding, link_finding}

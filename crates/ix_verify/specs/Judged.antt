@@ -6,8 +6,8 @@ use Rattle.ix_verdict.specs.Verdict.{digest_by, verdict_on}
 use Rattle.ix_verdict.specs.declared.verdict.Verdict.{Verdict}
 use Rattle.ix_verdict.specs.declared.verdict.Verdict.TheVariants.{Hash, Sound}
 use Rattle.ix_store.specs.Store.{Blocks, block_of}
-use Rattle.ix_archive.specs.declared.sink.Delivery.{Delivery}
-use Rattle.ix_car.specs.declared.reader.sections.Section.{Section}
+use Rattle.ix_car.specs.declared.sink.Delivery.{Delivery}
+use Rattle.ix_sections.specs.declared.reader.sections.Section.{Section}
 
 -- the verdict on a block that stands with its CID, by the hash function that the CID names
 abbrev pub verdict_by_hash : Option HashFunction → List ℕ → List ℕ → Verdict

@@ -13,17 +13,17 @@ use Rattle.ix_walk.specs.Once.{first_ones}
 use Rattle.ix_check.specs.Verdict.{verdict_with, verdict_of}
 use Rattle.ix_verdict.specs.declared.verdict.Verdict.TheVariants.{Codec, Sound}
 use Rattle.ix_verdict.specs.Verdict.{digest_by, has_codec}
-use Rattle.ix_archive.specs.declared.sink.Delivery.{Delivery}
-use Rattle.ix_archive.specs.declared.sink.End.TheVariants.{Done}
-use Rattle.ix_archive.specs.Archive.{Known, known_at, sections_of, archive_with, difference_of, archive_of}
-use Rattle.ix_archive.specs.ArchiveMeaning.{ArchiveMeaning, HasArchived, calls_of}
-use Rattle.ix_archive.specs.Faithful.{IsFaithful}
-use Rattle.ix_archive.specs.KnownPlaces.{known_by, IsKnownIn}
-use Rattle.ix_archive.specs.Report.{skips_of}
-use Rattle.ix_archive.specs.Restoring.{difference_pairs, AgreesWith, IsWithoutSkips}
-use Rattle.ix_archive.specs.Verified.{verified, judged_visits}
-use Rattle.ix_car.specs.Writing.{header_of}
-use Rattle.ix_car.specs.Sections.{SectionMeaning, section_list, roots_of, with_sections}
+use Rattle.ix_car.specs.declared.sink.Delivery.{Delivery}
+use Rattle.ix_car.specs.declared.sink.End.TheVariants.{Done}
+use Rattle.ix_car.specs.Archive.{Known, known_at, sections_of, archive_with, difference_of, archive_of}
+use Rattle.ix_car.specs.ArchiveMeaning.{ArchiveMeaning, HasArchived, calls_of}
+use Rattle.ix_car.specs.Faithful.{IsFaithful}
+use Rattle.ix_car.specs.KnownPlaces.{known_by, IsKnownIn}
+use Rattle.ix_car.specs.Report.{skips_of}
+use Rattle.ix_car.specs.Restoring.{difference_pairs, AgreesWith, IsWithoutSkips}
+use Rattle.ix_car.specs.Verified.{verified, judged_visits}
+use Rattle.ix_sections.specs.Writing.{header_of}
+use Rattle.ix_sections.specs.Sections.{SectionMeaning, section_list, roots_of, with_sections}
 use Rattle.ix_verify.specs.Judged.{section_verdict, IsSoundSection}
 use Rattle.ix_verify.specs.declared.found.Copies.TheVariants.{First, Sound as FirstSound}
 use Rattle.ix_verify.specs.Found.{with_files, copies_in, store_of, later_of, job_below, verified_job, HasSoundSections, IsSoundFile, IsSoundFileFor}

@@ -1,4 +1,4 @@
-pub use Rattle.ix_car.specs.Sections
+pub use Rattle.ix_sections.specs.Sections
 pub mod Kinds
 pub mod Tallied
 pub mod Names

@@ -2,10 +2,10 @@
 use Rattle.std.specs.Prelude.{◌≡◌, ℕ, List, [], ◌∷◌, Result, Ok}
 use Rattle.ix_store.specs.Store.{Blocks}
 use Rattle.ix_walk.specs.JobMeaning.{JobMeaning}
-use Rattle.ix_car.specs.Reading.{Fault, ◌>>=◌, blocks_after}
-use Rattle.ix_archive.specs.Archive.{Known}
-use Rattle.ix_archive.specs.Verified.{verified}
-use Rattle.ix_archive.specs.Restoring.{IsRestoredBy}
+use Rattle.ix_sections.specs.Reading.{Fault, ◌>>=◌, blocks_after}
+use Rattle.ix_car.specs.Archive.{Known}
+use Rattle.ix_car.specs.Verified.{verified}
+use Rattle.ix_car.specs.Restoring.{IsRestoredBy}
 use Rattle.ix_verify.specs.Written.{IsArchivableWithout}
 
 -- the difference of a job can be read back

@@ -1,6 +1,6 @@
 -- The roots of which a walk of everything below them begins.
 use Rattle.std.specs.Prelude.{ℕ, List, [], ◌∷◌, length, nat_le, if◌then◌else◌}
-use Rattle.ix_car.specs.Writing.{header_of}
+use Rattle.ix_sections.specs.Writing.{header_of}
 
 -- a CIDv1 of DAG-CBOR that holds a header with these roots itself (identity): a map that links to each of them
 abbrev pub holder_of : List (List ℕ) → List ℕ

@@ -4,10 +4,10 @@ use Rattle.std.specs.List.{list_any}
 use Rattle.std.specs.Ordering.{nat_cmp}
 use Rattle.std.specs.BTreeMap.{BTreeMap, get}
 use Rattle.ix_cid.specs.Cid.{codec_of, hash_code_of}
-use Rattle.ix_car.specs.Reading.{Fault}
-use Rattle.ix_car.specs.Gives.{IsFaultOf}
-use Rattle.ix_car.specs.Sections.{SectionMeaning, section_list}
-use Rattle.ix_car.specs.declared.fault.CarFault.{CarFault}
+use Rattle.ix_sections.specs.Reading.{Fault}
+use Rattle.ix_sections.specs.Gives.{IsFaultOf}
+use Rattle.ix_sections.specs.Sections.{SectionMeaning, section_list}
+use Rattle.ix_sections.specs.declared.fault.CarFault.{CarFault}
 use Rattle.ix_verify.specs.declared.summary.Summary.{Summary}
 
 -- of each of these sections the CID, its codec, the code of its hash function, and the size of the block

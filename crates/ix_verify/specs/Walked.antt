@@ -5,8 +5,8 @@ use Rattle.ix_walk.specs.JobMeaning.{JobMeaning}
 use Rattle.ix_walk.specs.Once.{first_ones}
 use Rattle.ix_store.specs.Store.{Blocks, has_cid}
 use Rattle.ix_check.specs.Verdict.{verdict_of, passes}
-use Rattle.ix_archive.specs.Verified.{judged}
-use Rattle.ix_archive.specs.declared.archive.Skip.{Skip}
+use Rattle.ix_car.specs.Verified.{judged}
+use Rattle.ix_car.specs.declared.archive.Skip.{Skip}
 use Rattle.ix_verify.specs.Found.{skip_of, may_lack_by, is_absent, IsWalkOf, IsReached}
 use Rattle.ix_verify.specs.declared.found.AllowMissing.{AllowMissing}
 use Rattle.ix_verify.specs.declared.reach.Watch.{Watch}

@@ -4,10 +4,10 @@ use Rattle.ix_cid.specs.Cid.{IsCid}
 use Rattle.ix_store.specs.Store.{Blocks, block_of}
 use Rattle.ix_check.specs.Verdict.{verdict_of}
 use Rattle.ix_verdict.specs.declared.verdict.Verdict.TheVariants.{Sound}
-use Rattle.ix_archive.specs.declared.sink.Delivery.{Delivery}
-use Rattle.ix_car.specs.Writing.{with_length, header_of}
-use Rattle.ix_archive.specs.Archive.{Known, first_sound, section_of, archive_without}
-use Rattle.ix_car.specs.Sections.{SectionMeaning, placed}
+use Rattle.ix_car.specs.declared.sink.Delivery.{Delivery}
+use Rattle.ix_sections.specs.Writing.{with_length, header_of}
+use Rattle.ix_car.specs.Archive.{Known, first_sound, section_of, archive_without}
+use Rattle.ix_sections.specs.Sections.{SectionMeaning, placed}
 use Rattle.ix_verify.specs.Judged.{section_verdict}
 
 -- the section of a CID at its offset, or none if there is no block

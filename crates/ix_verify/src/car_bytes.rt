@@ -1,13 +1,13 @@
 //! The bytes of a CARv1 file.
 
 ghost use Rattle.std.specs.Prelude.{◌≡◌, IfOk};
-ghost use Rattle.ix_car.specs.Gives.{Gives};
-ghost use Rattle.ix_car.specs.Copies.{with_copies};
-ghost use Rattle.ix_car.specs.Payload.{IsWithin, bytes_of};
-ghost use Rattle.ix_car.specs.Reading.{blocks_after};
-ghost use Rattle.ix_car.specs.Sections.{section_list};
+ghost use Rattle.ix_sections.specs.Gives.{Gives};
+ghost use Rattle.ix_sections.specs.Copies.{with_copies};
+ghost use Rattle.ix_sections.specs.Payload.{IsWithin, bytes_of};
+ghost use Rattle.ix_sections.specs.Reading.{blocks_after};
+ghost use Rattle.ix_sections.specs.Sections.{section_list};
 
-use ix_car::{BlockLoader, CarFault, Payload, SoundLoader};
+use ix_sections::{BlockLoader, CarFault, Payload, SoundLoader};
 use std::alloc::{AllocError, Global};
 use std::marker::Model;
 use std::sync::Arc;

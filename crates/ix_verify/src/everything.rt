@@ -4,8 +4,8 @@ ghost use Rattle.std.specs.Prelude.{◌≡◌, IfOk};
 ghost use Rattle.ix_verify.specs.Roots.{holder_of, few_roots};
 ghost use Rattle.ix_verify.specs.Found.{roots_job};
 
-use ix_car::header_of;
 use ix_cid::Cid;
+use ix_sections::header_of;
 use ix_selector::Selector;
 use ix_walk::{Job, MOST_ROOTS};
 use std::alloc::{AllocError, Global};

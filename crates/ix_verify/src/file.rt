@@ -1,11 +1,11 @@
 //! Verifies files.
 
 ghost use Rattle.std.specs.Prelude.{◌≡◌, ◌+◌, ◌^◌, ◌<◌, ◌≤◌, map, length, IfOk, IfErr, OnOk, MatchResult};
-ghost use Rattle.ix_car.specs.declared.fault.CarKind.TheVariants.{Memory};
-ghost use Rattle.ix_car.specs.Gives.{IsFaultOf};
-ghost use Rattle.ix_car.specs.SectionView.{section_of};
-ghost use Rattle.ix_car.specs.Sections.{section_list};
-ghost use Rattle.ix_archive.specs.Archive.{is_sound};
+ghost use Rattle.ix_sections.specs.declared.fault.CarKind.TheVariants.{Memory};
+ghost use Rattle.ix_sections.specs.Gives.{IsFaultOf};
+ghost use Rattle.ix_sections.specs.SectionView.{section_of};
+ghost use Rattle.ix_sections.specs.Sections.{section_list};
+ghost use Rattle.ix_car.specs.Archive.{is_sound};
 ghost use Rattle.ix_verify.specs.declared.found.Scope.TheVariants.{Sections as OfSections, Graph as OfGraph};
 ghost use Rattle.ix_verify.specs.Outcome.{section_finding};
 ghost use Rattle.ix_verify.specs.Noting.{NotesMore};
@@ -19,9 +19,9 @@ use crate::observer::{Observer, Unobserved};
 use crate::other_file::{Beside, load_beside};
 use crate::reach::{Reached, walk_given, walk_roots};
 use crate::section::verdicts_with_store;
-use ix_car::{CarFault, CarKind, Section, read_header, read_section};
 use ix_check::Verdict;
 use ix_cid::Cid;
+use ix_sections::{CarFault, CarKind, Section, read_header, read_section};
 use ix_store::Store;
 use ix_walk::Job;
 use std::alloc::{AllocError, Global};

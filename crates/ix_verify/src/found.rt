@@ -5,7 +5,7 @@ ghost use Rattle.ix_verify.specs.Outcome.{outcome_on, worse, outcome_at_limit};
 ghost use Rattle.ix_verify.specs.Found.{allow_none, may_lack_by, is_sound_file, outcome_of};
 
 use crate::noted::Noted;
-use ix_archive::Skip;
+use ix_car::Skip;
 use ix_check::Verdict;
 use ix_cid::Cid;
 use ix_cid::code::{DAG_CBOR, RAW};

@@ -2,16 +2,16 @@
 
 ghost use Rattle.std.specs.Prelude.{◌≡◌, ◌++◌, [], IfOk};
 ghost use Rattle.ix_store.specs.Sound.{sound_copies, later_count};
-ghost use Rattle.ix_car.specs.Copies.{copies_of};
-ghost use Rattle.ix_car.specs.Gives.{Gives};
-ghost use Rattle.ix_car.specs.Sections.{section_list, with_sections};
+ghost use Rattle.ix_sections.specs.Copies.{copies_of};
+ghost use Rattle.ix_sections.specs.Gives.{Gives};
+ghost use Rattle.ix_sections.specs.Sections.{section_list, with_sections};
 ghost use Rattle.ix_verify.specs.declared.found.Copies.TheVariants.{First, Sound};
 ghost use Rattle.ix_verify.specs.Beside.{sections_read, blocks_beside, with_copies_in};
 ghost use Rattle.ix_verify.specs.Found.{allow_none, with_files};
 
 use crate::car_bytes::CarBytes;
 use crate::found::{AllowMissing, Copies};
-use ix_car::{BlockLoader, CarFault, CarKind, SoundLoader, read_sections};
+use ix_sections::{BlockLoader, CarFault, CarKind, SoundLoader, read_sections};
 use ix_store::{SoundStore, Store};
 use std::alloc::{AllocError, Global};
 use std::marker::Model;
@@ -52,7 +52,7 @@ pub struct OtherFile {
 
 impl Model for OtherFile {
     ghost use Rattle.std.specs.Prelude.{List};
-    ghost use Rattle.ix_car.specs.Sections.{SectionMeaning, section_list};
+    ghost use Rattle.ix_sections.specs.Sections.{SectionMeaning, section_list};
     ghost use Rattle.ix_verify.specs.Beside.{sections_read, IsRead};
 
     ghost Value = { List SectionMeaning };

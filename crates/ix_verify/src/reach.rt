@@ -14,7 +14,7 @@ use crate::everything::roots_job;
 use crate::found::AllowMissing;
 use crate::noted::Noted;
 use crate::observer::Observer;
-use ix_archive::Skip;
+use ix_car::Skip;
 use ix_check::{Check, PlainCheck, Verdict};
 use ix_cid::Cid;
 use ix_store::Store;

@@ -2,12 +2,12 @@
 
 ghost use Rattle.std.specs.Prelude.{◌≡◌, ◌≤◌, length, drop, IfOk, IfErr};
 ghost use Rattle.std.specs.Arc.{arc_value};
-ghost use Rattle.ix_car.specs.Gives.{IsFaultOf};
-ghost use Rattle.ix_car.specs.Sections.{section_list};
-ghost use Rattle.ix_car.specs.declared.fault.CarKind.TheVariants.{Memory};
+ghost use Rattle.ix_sections.specs.Gives.{IsFaultOf};
+ghost use Rattle.ix_sections.specs.Sections.{section_list};
+ghost use Rattle.ix_sections.specs.declared.fault.CarKind.TheVariants.{Memory};
 ghost use Rattle.ix_verify.specs.Tallied.{HasDistinct};
 
-use ix_car::{BlockLoader, CarFault, CarKind};
+use ix_sections::{BlockLoader, CarFault, CarKind};
 use std::alloc::Global;
 use std::sync::Arc;
 use std::thread::Threads;

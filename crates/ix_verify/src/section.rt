@@ -4,9 +4,9 @@ ghost use Rattle.std.specs.Prelude.{◌≡◌, ℕ, ◌<◌, length, slice_index
 ghost use Rattle.ix_cbor.specs.Reading.{data_at};
 ghost use Rattle.ix_verify.specs.Judged.{verdict_in, section_pair};
 
-use ix_car::Section;
 use ix_cbor::check;
 use ix_cid::code::DAG_CBOR;
+use ix_sections::Section;
 use ix_store::{Store, map_interleaved};
 use ix_verdict::{Verdict, has_digest};
 use std::alloc::{AllocError, Global};

@@ -2,14 +2,14 @@
 
 ghost use Rattle.std.specs.Prelude.{◌≡◌, ◌-◌, ◌/◌, ◌≤◌, ◌<◌, ◌^◌, ℕ, List, [], ◌∷◌, ◌++◌, length, drop, slice_get, IfOk, IfErr, OnOk};
 ghost use Rattle.std.specs.Arc.{arc_value};
-ghost use Rattle.ix_car.specs.Gives.{IsFaultOf};
-ghost use Rattle.ix_car.specs.Sections.{SectionMeaning, section_list};
-ghost use Rattle.ix_car.specs.SectionView.{section_of};
+ghost use Rattle.ix_sections.specs.Gives.{IsFaultOf};
+ghost use Rattle.ix_sections.specs.Sections.{SectionMeaning, section_list};
+ghost use Rattle.ix_sections.specs.SectionView.{section_of};
 ghost use Rattle.ix_verify.specs.Tallied.{IsTallied, Summarizes, HasTallied};
 
 use crate::repeats::{distinct_in, no_memory};
 use crate::tally::{Tally, count_in};
-use ix_car::{CarFault, Section, read_header, read_section};
+use ix_sections::{CarFault, Section, read_header, read_section};
 use std::alloc::{AllocError, Global};
 use std::collections::BTreeMap;
 use std::sync::Arc;

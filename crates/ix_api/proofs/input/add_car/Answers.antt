@@ -1,9 +1,9 @@
 use Rattle.std.proofs.Common.{List, ◌∙◌, sym, ap, map}
 use Rattle.std.specs.Prelude.{Ok}
-use Rattle.ix_car.specs.declared.reader.sections.Section.{Section}
-use Rattle.ix_car.specs.Sections.{with_sections, with_first_of_each}
-use Rattle.ix_car.specs.SectionView.{section_of}
-use Rattle.ix_car.proofs.SectionLists.{blocks-after_sections}
+use Rattle.ix_sections.specs.declared.reader.sections.Section.{Section}
+use Rattle.ix_sections.specs.Sections.{with_sections, with_first_of_each}
+use Rattle.ix_sections.specs.SectionView.{section_of}
+use Rattle.ix_sections.proofs.SectionLists.{blocks-after_sections}
 use Rattle.ix_api.proofs.FileBlocks.{fault-of_blocks}
 use Rattle.ix_api.proofs.input.add_car.Goals as goal
 

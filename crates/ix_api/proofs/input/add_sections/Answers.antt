@@ -1,8 +1,8 @@
 use Rattle.std.proofs.Common.{◌≡◌, ◌∙◌, sym, ap, map, take, rules}
 use Rattle.std.proofs.lemmas.List.{take-map}
 use Rattle.ix_store.specs.Store.{with_block}
-use Rattle.ix_car.specs.Sections.{with_sections}
-use Rattle.ix_car.specs.SectionView.{section_of}
+use Rattle.ix_sections.specs.Sections.{with_sections}
+use Rattle.ix_sections.specs.SectionView.{section_of}
 use Rattle.ix_api.proofs.FileBlocks.{sections-more}
 use Rattle.ix_api.proofs.input.add_sections.Goals as goal
 

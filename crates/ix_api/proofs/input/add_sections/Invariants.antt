@@ -1,6 +1,6 @@
 use Rattle.std.proofs.Common.{◌≡◌, map, take}
-use Rattle.ix_car.specs.Sections.{with_sections}
-use Rattle.ix_car.specs.SectionView.{section_of}
+use Rattle.ix_sections.specs.Sections.{with_sections}
+use Rattle.ix_sections.specs.SectionView.{section_of}
 use Rattle.ix_api.proofs.input.add_sections.Given as goal
 
 abbrev pub invariant-loop-section : goal.invariant-loop-section

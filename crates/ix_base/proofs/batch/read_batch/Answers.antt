@@ -1,6 +1,6 @@
 use Rattle.std.proofs.Common.{◌<◌, ◌-◌, ◌∷◌, [], length, length-append, ap, arith, rules}
 use Rattle.std.proofs.lemmas.Result.{err_from_is_err_and}
-use Rattle.ix_car.proofs.Sections.{section_at-shorter}
+use Rattle.ix_sections.proofs.Sections.{section_at-shorter}
 use Rattle.ix_base.proofs.Sections.{reads-first, reads-more, reads-fault}
 use Rattle.ix_base.proofs.batch.read_batch.Goals as goal
 

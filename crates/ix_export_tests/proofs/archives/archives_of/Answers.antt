@@ -1,7 +1,7 @@
 use Rattle.std.proofs.Common.{◌≡◌, [], arith}
 use Rattle.std.proofs.lemmas.List.{length-append}
-use Rattle.ix_archive.specs.ArchiveMeaning.{events_of}
-use Rattle.ix_archive.proofs.Each.{each_push}
+use Rattle.ix_car.specs.ArchiveMeaning.{events_of}
+use Rattle.ix_car.proofs.Each.{each_push}
 use Rattle.ix_export_tests.proofs.archives.archives_of.Goals as goal
 
 pub loop-job-preserved : goal.loop-job-preserved

@@ -1,5 +1,5 @@
 use Rattle.std.proofs.Common.{◌≡◌, length}
-use Rattle.ix_archive.specs.ArchiveMeaning.{calls_of}
+use Rattle.ix_car.specs.ArchiveMeaning.{calls_of}
 use Rattle.ix_pipeline.specs.Headline.{EachFresh}
 use Rattle.ix_export_tests.proofs.archives.archives_of.Given as goal
 

@@ -1,7 +1,7 @@
 use Rattle.std.proofs.Common.{rules, tests, ◌≡◌, not, length, ap, refl, arith}
 use Rattle.std.specs.List.{filter}
 use Rattle.std.proofs.lemmas.Fn.{filter_same}
-use Rattle.ix_archive.specs.declared.archive.Skip.{Skip}
+use Rattle.ix_car.specs.declared.archive.Skip.{Skip}
 use Rattle.ix_jobs.specs.Missing.{is_absent}
 use Rattle.ix_jobs.proofs.AbsentSkips.{parted}
 use Rattle.ix_jobs.proofs.absent.without_absent.Goals as goal

@@ -1,5 +1,5 @@
 use Rattle.std.proofs.Common.{◌≡◌, [], ◌∙◌, ap}
-use Rattle.ix_car.specs.Writing.{header_of}
+use Rattle.ix_sections.specs.Writing.{header_of}
 use Rattle.ix_own_archive.proofs.Headers.{begins-with, lacks-header, header-fault}
 use Rattle.ix_own_archive.proofs.Rightly.{header-not}
 use Rattle.ix_own_archive.proofs.check.check_archive.Goals as goal

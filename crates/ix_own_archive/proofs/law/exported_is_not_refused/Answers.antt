@@ -1,4 +1,4 @@
-use Rattle.ix_archive.specs.Archive.{archive_of}
+use Rattle.ix_car.specs.Archive.{archive_of}
 use Rattle.ix_own_archive.proofs.Exported.{own-open}
 use Rattle.ix_own_archive.proofs.law.exported_is_not_refused.Goals as goal
 

@@ -1,6 +1,6 @@
 use Rattle.std.proofs.Common.{◌≡◌, ◌<◌, ◌^◌, length, ◌∙◌, subst, arith, rules}
 use Rattle.std.proofs.lemmas.Result.{IfOk-weaker, IfErr-weaker}
-use Rattle.ix_car.specs.Writing.{header_of}
+use Rattle.ix_sections.specs.Writing.{header_of}
 use Rattle.ix_own_archive.specs.Requests.{asked_of}
 use Rattle.ix_own_archive.proofs.Written.{are-bytes}
 use Rattle.ix_own_archive.proofs.Headers.{begins-with, lacks-header}

@@ -1,6 +1,6 @@
 use Rattle.std.proofs.Common.{◌≡◌, ◌<◌, ◌^◌, true, ◌++◌, length, ap, arith, rules, length-append}
 use Rattle.std.specs.Prelude.{Some, Ok}
-use Rattle.ix_car.specs.Writing.{section_with}
+use Rattle.ix_sections.specs.Writing.{section_with}
 use Rattle.ix_own_archive.specs.Fronts.{is_whole}
 use Rattle.ix_own_archive.proofs.Fronts.{whole-within}
 use Rattle.ix_own_archive.proofs.stream_parts.next_section.Goals as goal

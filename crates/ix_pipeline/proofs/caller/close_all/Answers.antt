@@ -1,5 +1,5 @@
 use Rattle.std.proofs.Common.{◌<◌, ◌≤◌, ◌+◌, length, get_or, refl, sym, ◌∙◌, ap, subst, arith}
-use Rattle.ix_archive.specs.Events.{IsOpen}
+use Rattle.ix_car.specs.Events.{IsOpen}
 use Rattle.ix_pipeline.proofs.ThreadClosings.{closed_none, next_fresh, closed_more, all_closed}
 use Rattle.ix_pipeline.proofs.caller.close_all.Goals as goal
 

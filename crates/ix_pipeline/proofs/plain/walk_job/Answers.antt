@@ -1,7 +1,7 @@
 use Rattle.std.proofs.Common.{rules, Ok, Err, refl, sym, ◌∙◌, ap}
 use Rattle.std.proofs.lemmas.Result.{err_from_is_err_and}
 use Rattle.ix_walk.specs.declared.fault.WalkStop.TheVariants as reasons
-use Rattle.ix_archive.specs.declared.sink.End.TheVariants.{Limit, Memory}
+use Rattle.ix_car.specs.declared.sink.End.TheVariants.{Limit, Memory}
 use Rattle.ix_stages.proofs.Puts.{given_is}
 use Rattle.ix_pipeline.specs.Progress.{end_on, end_of}
 use Rattle.ix_pipeline.proofs.UnderWay.{starts, can_hand, next_of_store, hands, hands_none, walked_as, limits, stops, walk-ends}

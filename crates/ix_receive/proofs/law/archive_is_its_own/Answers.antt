@@ -2,9 +2,9 @@ use Rattle.std.proofs.Common.{◌≡◌, Bool, true, false, refl, sym, ap, ◌�
 use Rattle.std.specs.Prelude.{None}
 use Rattle.ix_walk.specs.JobMeaning.{JobMeaning, going_in}
 use Rattle.ix_walk.specs.Visits.{is_over_limit}
-use Rattle.ix_archive.specs.Archive.{archive_of}
-use Rattle.ix_archive.specs.Laws.{once, every_time}
-use Rattle.ix_archive.proofs.Restored.{pairs-bytes}
+use Rattle.ix_car.specs.Archive.{archive_of}
+use Rattle.ix_car.specs.Laws.{once, every_time}
+use Rattle.ix_car.proofs.Restored.{pairs-bytes}
 use Rattle.ix_receive.specs.Own.{archive_pairs, IsItsOwn, archive_bytes}
 use Rattle.ix_receive.proofs.Again.{own-again}
 use Rattle.ix_receive.proofs.law.archive_is_its_own.Goals as goal

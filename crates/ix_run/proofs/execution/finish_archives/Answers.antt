@@ -3,8 +3,8 @@ use Rattle.std.specs.Io.KnownBytes.{Keeps}
 use Rattle.std.specs.Slice.Iter.{iter_rest}
 use Rattle.std.specs.Vec.Iter.{into_iter_items}
 use Rattle.std.proofs.lemmas.List.{map_push}
-use Rattle.ix_archive.specs.declared.sink.End.{End}
-use Rattle.ix_archive.specs.ArchiveMeaning.{ArchiveMeaning}
+use Rattle.ix_car.specs.declared.sink.End.{End}
+use Rattle.ix_car.specs.ArchiveMeaning.{ArchiveMeaning}
 use Rattle.std.specs.Prelude.{None}
 use Rattle.ix_run.specs.Run.{IsEnded, EachEnded}
 use Rattle.ix_run.proofs.Runs.{EachEnded-more}

@@ -1,8 +1,8 @@
 use Rattle.std.proofs.Common.{◌≡◌, length, map, ◌++◌, Bor}
 use Rattle.std.specs.Slice.Iter.{iter_rest}
 use Rattle.std.specs.Vec.Iter.{into_iter_items, into_iter_len}
-use Rattle.ix_archive.specs.declared.sink.End.{End}
-use Rattle.ix_archive.specs.ArchiveMeaning.{ArchiveMeaning}
+use Rattle.ix_car.specs.declared.sink.End.{End}
+use Rattle.ix_car.specs.ArchiveMeaning.{ArchiveMeaning}
 use Rattle.ix_run.specs.Run.{EachEnded}
 use Rattle.ix_run.proofs.execution.finish_archives.Given as goal
 

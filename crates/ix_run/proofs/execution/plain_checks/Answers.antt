@@ -1,6 +1,6 @@
 use Rattle.std.proofs.Common.{◌≡◌, ◌+◌, ◌∙◌, ap, sym, subst, ℕ, List, []}
 use Rattle.ix_pipeline.specs.Headline.{EachUnused}
-use Rattle.ix_archive.proofs.Each.{each_push}
+use Rattle.ix_car.proofs.Each.{each_push}
 use Rattle.ix_run.proofs.execution.plain_checks.Goals as goal
 
 pub loop-preserved : goal.loop-preserved

@@ -1,6 +1,6 @@
 use Rattle.std.proofs.Common.{refl, sym, ◌∙◌, ap, subst, length}
-use Rattle.ix_archive.specs.Archive.{known_at}
-use Rattle.ix_archive.specs.ArchiveMeaning.{borrowed, calls_of}
+use Rattle.ix_car.specs.Archive.{known_at}
+use Rattle.ix_car.specs.ArchiveMeaning.{borrowed, calls_of}
 use Rattle.ix_pipeline.specs.Headline.{EachFresh}
 use Rattle.ix_run.proofs.Runs.{begun-length, begun-fresh, delivered-length, kept-length, whole_again, ended_sinks}
 use Rattle.ix_run.proofs.execution.run_jobs_without.Goals as goal

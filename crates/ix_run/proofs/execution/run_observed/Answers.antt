@@ -1,8 +1,8 @@
 use Rattle.std.proofs.Common.{rules, ◌≡◌, List, sym, ◌∙◌, ap, subst, length}
 use Rattle.std.specs.Arc.{arc_value}
 use Rattle.ix_walk.specs.JobMeaning.{JobMeaning}
-use Rattle.ix_archive.specs.Archive.{known_at}
-use Rattle.ix_archive.specs.ArchiveMeaning.{calls_of, borrowed}
+use Rattle.ix_car.specs.Archive.{known_at}
+use Rattle.ix_car.specs.ArchiveMeaning.{calls_of, borrowed}
 use Rattle.ix_pipeline.specs.Headline.{EachFresh}
 use Rattle.ix_run.specs.Run.{EachRun, EachBegun, IsLeftOf}
 use Rattle.ix_run.proofs.Runs.{begun-length, begun-fresh, delivered-length, kept-length, whole_again, ended_sinks, run-length}

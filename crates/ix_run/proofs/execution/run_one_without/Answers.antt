@@ -1,6 +1,6 @@
 use Rattle.std.proofs.Common.{◌≡◌, [], ◌∷◌, rules}
-use Rattle.ix_archive.specs.Archive.{known_at}
-use Rattle.ix_archive.specs.ArchiveMeaning.{borrowed}
+use Rattle.ix_car.specs.Archive.{known_at}
+use Rattle.ix_car.specs.ArchiveMeaning.{borrowed}
 use Rattle.ix_run.proofs.Alone.{alone}
 use Rattle.ix_run.proofs.execution.run_one_without.Goals as goal
 

@@ -3,8 +3,8 @@ use Rattle.std.proofs.lemmas.List.{length-map, map_push}
 use Rattle.std.specs.Slice.Iter.{iter_rest}
 use Rattle.std.specs.Vec.Iter.{into_iter_items}
 use Rattle.ix_walk.specs.JobMeaning.{JobMeaning}
-use Rattle.ix_archive.specs.Archive.{known_at}
-use Rattle.ix_archive.specs.ArchiveMeaning.{borrowed}
+use Rattle.ix_car.specs.Archive.{known_at}
+use Rattle.ix_car.specs.ArchiveMeaning.{borrowed}
 use Rattle.ix_run.specs.Run.{EachBegun}
 use Rattle.ix_run.proofs.Runs.{EachBegun-more, begun-length}
 use Rattle.ix_run.proofs.Turns.{turn, room, all_taken}

@@ -2,8 +2,8 @@ use Rattle.std.proofs.Common.{◌≡◌, length, map, ◌++◌, Bor}
 use Rattle.std.specs.Slice.Iter.{iter_rest}
 use Rattle.std.specs.Vec.Iter.{into_iter_items, into_iter_len}
 use Rattle.ix_walk.specs.JobMeaning.{JobMeaning}
-use Rattle.ix_archive.specs.Archive.{known_at}
-use Rattle.ix_archive.specs.ArchiveMeaning.{borrowed}
+use Rattle.ix_car.specs.Archive.{known_at}
+use Rattle.ix_car.specs.ArchiveMeaning.{borrowed}
 use Rattle.ix_run.specs.Run.{EachBegun}
 use Rattle.ix_run.proofs.execution.start_archives.Given as goal
 

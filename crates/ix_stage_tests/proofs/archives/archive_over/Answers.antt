@@ -1,4 +1,4 @@
-use Rattle.ix_archive.proofs.Delivered.{open-at_first}
+use Rattle.ix_car.proofs.Delivered.{open-at_first}
 use Rattle.ix_stage_tests.proofs.archives.archive_over.Goals as goal
 
 pub outcome_of-requires : goal.outcome_of-requires

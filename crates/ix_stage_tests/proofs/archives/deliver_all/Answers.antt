@@ -1,7 +1,7 @@
 use Rattle.std.proofs.Common.{sym, subst}
-use Rattle.ix_archive.specs.Events.{IsOpen}
-use Rattle.ix_archive.specs.ArchiveMeaning.{events_of}
-use Rattle.ix_archive.proofs.Delivered.{open-push}
+use Rattle.ix_car.specs.Events.{IsOpen}
+use Rattle.ix_car.specs.ArchiveMeaning.{events_of}
+use Rattle.ix_car.proofs.Delivered.{open-push}
 use Rattle.ix_stage_tests.proofs.archives.deliver_all.Goals as goal
 
 pub loop-cid-preserved : goal.loop-cid-preserved

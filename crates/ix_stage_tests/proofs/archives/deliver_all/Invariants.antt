@@ -1,6 +1,6 @@
 use Rattle.std.proofs.Common.{◌≡◌, []}
-use Rattle.ix_archive.specs.Events.{IsOpen}
-use Rattle.ix_archive.specs.ArchiveMeaning.{events_of}
+use Rattle.ix_car.specs.Events.{IsOpen}
+use Rattle.ix_car.specs.ArchiveMeaning.{events_of}
 use Rattle.ix_stage_tests.proofs.archives.deliver_all.Given as goal
 
 abbrev pub invariant-loop-cid : goal.invariant-loop-cid

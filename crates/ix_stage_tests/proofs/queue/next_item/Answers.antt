@@ -1,6 +1,6 @@
 use Rattle.std.proofs.Common.{Result, Some, sym, subst, ◌∙◌}
 use Rattle.ix_cid.proofs.Lists.{all_past}
-use Rattle.ix_archive.specs.declared.sink.End.TheVariants.{Done}
+use Rattle.ix_car.specs.declared.sink.End.TheVariants.{Done}
 use Rattle.ix_walk.specs.declared.visit.Visit.{Visit}
 use Rattle.ix_walk.specs.declared.fault.WalkStop.{WalkStop}
 use Rattle.ix_walk.specs.WalkLeft.{GivesNext}

@@ -2,7 +2,7 @@ use Rattle.std.proofs.Common.{rules, ◌∙◌, ℕ, drop, slice_get, Ok, sym, a
 use Rattle.ix_cid.proofs.Lists.{next_at, all_past}
 use Rattle.ix_walk.specs.Visits.{visits_of}
 use Rattle.ix_stages.specs.declared.pass_view.PassView.{PassView}
-use Rattle.ix_archive.specs.declared.sink.End.TheVariants.{Done}
+use Rattle.ix_car.specs.declared.sink.End.TheVariants.{Done}
 use Rattle.ix_stages.proofs.Puts.{visit_is_next, close_is_allowed, given_is}
 use Rattle.ix_stages.proofs.walker.put_visits.Goals as goal
 

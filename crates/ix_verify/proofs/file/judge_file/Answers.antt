@@ -1,7 +1,7 @@
 use Rattle.std.proofs.Common.{◌≡◌, ◌<◌, ◌^◌, List, map, length, ◌∙◌, sym, ap, subst, arith, rules}
 use Rattle.ix_store.proofs.Stores.{holds-at_ok}
-use Rattle.ix_car.specs.declared.reader.sections.Section.{Section}
-use Rattle.ix_car.specs.SectionView.{section_of}
+use Rattle.ix_sections.specs.declared.reader.sections.Section.{Section}
+use Rattle.ix_sections.specs.SectionView.{section_of}
 use Rattle.ix_verify.specs.Outcome.{section_finding}
 use Rattle.ix_verify.specs.Noting.{NotesMore}
 use Rattle.ix_verify.specs.Found.{unsound_of}

@@ -1,5 +1,5 @@
 use Rattle.std.proofs.Common.{length}
-use Rattle.ix_car.specs.Sections.{section_list}
+use Rattle.ix_sections.specs.Sections.{section_list}
 use Rattle.ix_verify.proofs.Batches.{AreJudgedTo}
 use Rattle.ix_verify.proofs.file.judge_file.Given as goal
 

@@ -1,6 +1,6 @@
 use Rattle.std.proofs.Common.{ℕ, List, ◌∷◌, [], refl, sym, ◌∙◌, ap, subst}
 use Rattle.std.specs.Prelude.{OnOk}
-use Rattle.ix_car.specs.declared.reader.sections.Section.{Section}
+use Rattle.ix_sections.specs.declared.reader.sections.Section.{Section}
 use Rattle.ix_verify.specs.Outcome.{section_finding}
 use Rattle.ix_verify.specs.Noting.{NotesMore}
 use Rattle.ix_verify.specs.declared.found.Unsound.{Unsound}

@@ -1,4 +1,4 @@
-use Rattle.ix_archive.specs.Verified.{verified}
+use Rattle.ix_car.specs.Verified.{verified}
 use Rattle.ix_verify.proofs.SoundSections.{All-verified}
 use Rattle.ix_verify.proofs.ArchivesAgain.{archive-verifies}
 use Rattle.ix_verify.proofs.WholeFound.{archive-whole, archive-selected}

@@ -1,5 +1,5 @@
 use Rattle.std.proofs.Common.{List, true, false, refl, sym, ◌∙◌, subst, arith}
-use Rattle.ix_archive.specs.declared.archive.Skip.{Skip}
+use Rattle.ix_car.specs.declared.archive.Skip.{Skip}
 use Rattle.ix_verify.specs.Outcome.{link_finding}
 use Rattle.ix_verify.specs.Noting.{NotesMore}
 use Rattle.ix_verify.specs.Walked.{lack_of}

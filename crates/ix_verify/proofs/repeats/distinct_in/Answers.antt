@@ -3,10 +3,10 @@ use Rattle.std.specs.Prelude.{Result, Ok}
 use Rattle.std.specs.Arc.{arc_value}
 use Rattle.std.proofs.lemmas.Result.{err_from_is_err_and}
 use Rattle.ix_store.specs.Store.{Blocks}
-use Rattle.ix_car.specs.Gives.{FailsAs}
-use Rattle.ix_car.specs.Reading.{Fault, blocks_after}
-use Rattle.ix_car.specs.Sections.{section_list, with_first_of_each}
-use Rattle.ix_car.proofs.SectionLists.{blocks-after_sections}
+use Rattle.ix_sections.specs.Gives.{FailsAs}
+use Rattle.ix_sections.specs.Reading.{Fault, blocks_after}
+use Rattle.ix_sections.specs.Sections.{section_list, with_first_of_each}
+use Rattle.ix_sections.proofs.SectionLists.{blocks-after_sections}
 use Rattle.ix_verify.proofs.DistinctCids.{distinct-of, fails-alike}
 use Rattle.ix_verify.proofs.repeats.distinct_in.Goals as goal
 

@@ -1,11 +1,11 @@
 use Rattle.std.proofs.Common.{◌≡◌, ◌-◌, ◌<◌, ◌++◌, ◌∷◌, [], ℕ, List, length, length-append, sym, ◌∙◌, ap, arith, rules}
 use Rattle.std.specs.Prelude.{Result}
 use Rattle.std.proofs.lemmas.Result.{err_from_is_err_and}
-use Rattle.ix_car.specs.Reading.{Fault, ◌>>=◌}
-use Rattle.ix_car.specs.Sections.{section_list, sections_in}
-use Rattle.ix_car.specs.SectionView.{section_of}
-use Rattle.ix_car.proofs.Sections.{section_at-shorter}
-use Rattle.ix_car.proofs.SectionLists.{ListGoesOn-first, ListGoesOn-more, ListGoesOn-fails, ListGoesOn-last, FailsAs-of}
+use Rattle.ix_sections.specs.Reading.{Fault, ◌>>=◌}
+use Rattle.ix_sections.specs.Sections.{section_list, sections_in}
+use Rattle.ix_sections.specs.SectionView.{section_of}
+use Rattle.ix_sections.proofs.Sections.{section_at-shorter}
+use Rattle.ix_sections.proofs.SectionLists.{ListGoesOn-first, ListGoesOn-more, ListGoesOn-fails, ListGoesOn-last, FailsAs-of}
 use Rattle.ix_verify.proofs.summary.tallied.Goals as goal
 
 pub loop-rest-init : goal.loop-rest-init

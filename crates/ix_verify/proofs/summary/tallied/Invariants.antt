@@ -1,6 +1,6 @@
 use Rattle.std.proofs.Common.{◌+◌, ◌≤◌, List, length}
-use Rattle.ix_car.specs.Sections.{SectionMeaning, section_list}
-use Rattle.ix_car.proofs.SectionLists.{ListGoesOn}
+use Rattle.ix_sections.specs.Sections.{SectionMeaning, section_list}
+use Rattle.ix_sections.proofs.SectionLists.{ListGoesOn}
 use Rattle.ix_verify.specs.Tallied.{IsTallied}
 use Rattle.ix_verify.proofs.summary.tallied.Given as goal
 

@@ -1,5 +1,5 @@
 use Rattle.std.specs.Prelude.{option_to_list}
-use Rattle.ix_archive.proofs.Open.{closes}
+use Rattle.ix_car.proofs.Open.{closes}
 use Rattle.ix_fixtures.proofs.log.LogSink.close.Goals as goal
 
 pub returns-clause-closed : goal.returns-clause-closed

@@ -2,7 +2,7 @@ use Rattle.std.proofs.Common.{◌∙◌, refl, subst}
 use Rattle.std.specs.Prelude.{Option}
 use Rattle.std.specs.Arc.{arc_value}
 use Rattle.ix_store.specs.declared.places.PlaceSet.{PlaceSet}
-use Rattle.ix_archive.specs.Archive.{known_at}
+use Rattle.ix_car.specs.Archive.{known_at}
 use Rattle.ix_run.specs.Run.{HasRun}
 use Rattle.ix_load.proofs.Borrowed.{map-copied}
 use Rattle.ix_load.proofs.threads.ThreadCounts.run_observed.Goals as goal

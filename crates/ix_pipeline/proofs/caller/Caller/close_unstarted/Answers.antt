@@ -1,5 +1,5 @@
 use Rattle.std.proofs.Common.{ℕ, List, Contains, sym, subst}
-use Rattle.ix_archive.specs.Headline.{IsEachOnce}
+use Rattle.ix_car.specs.Headline.{IsEachOnce}
 use Rattle.ix_stages.specs.Good.{IsGood}
 use Rattle.ix_stages.specs.Lanes.{all_sent}
 use Rattle.ix_stages.specs.Shared.{store_of, jobs_of}

@@ -1,5 +1,5 @@
 use Rattle.std.proofs.Common.{ℕ, List, [], ap, sym, subst, inl, ◌∙◌}
-use Rattle.ix_archive.specs.Headline.{IsCheckedOnce}
+use Rattle.ix_car.specs.Headline.{IsCheckedOnce}
 use Rattle.ix_stages.specs.declared.lanes.LaneIn.{LaneIn}
 use Rattle.ix_stages.specs.declared.lanes.LaneOut.{LaneOut}
 use Rattle.ix_stages.specs.declared.verdicted.Verdicted.{Verdicted}

@@ -9,7 +9,7 @@ use Rattle.ix_stages.specs.Lanes.{sent_by, all_sent}
 use Rattle.ix_stages.specs.Seats.{SeatView}
 use Rattle.ix_stages.specs.Settled.{taken_by}
 use Rattle.ix_stages.specs.Verified.{IsVerified}
-use Rattle.ix_archive.specs.Headline.{checked_by}
+use Rattle.ix_car.specs.Headline.{checked_by}
 use Rattle.ix_pipeline.specs.declared.caller.Caller.{Caller}
 use Rattle.ix_pipeline.specs.declared.verifying.Verifier.{Verifier}
 use Rattle.ix_pipeline.specs.declared.verifying.StartFacts.{StartFacts}

@@ -1,5 +1,5 @@
 use Rattle.std.proofs.Common.{rules, ◌≡◌, ◌≤◌, sym, ◌∙◌, ap, subst, take_all, map, length, List}
-use Rattle.ix_archive.specs.declared.sink.End.{End}
+use Rattle.ix_car.specs.declared.sink.End.{End}
 use Rattle.ix_pipeline.specs.declared.job_progress.JobProgress.{JobProgress}
 use Rattle.ix_pipeline.specs.Collected.{EachEnded}
 use Rattle.ix_pipeline.proofs.Finished.{end_or, ends_known}

@@ -2,7 +2,7 @@ use Rattle.std.proofs.Common.{rules, ◌≡◌, [], ◌∷◌, ◌++◌, List, l
 use Rattle.ix_pipeline.specs.declared.job_progress.JobProgress.{JobProgress}
 use Rattle.ix_pipeline.specs.Collected.{AllNew}
 use Rattle.ix_pipeline.specs.JobProgress.{IsNew}
-use Rattle.ix_archive.proofs.Each.{each_push}
+use Rattle.ix_car.proofs.Each.{each_push}
 use Rattle.ix_pipeline.proofs.collector.Collector.new.Goals as goal
 
 pub loop-preserved : goal.loop-preserved

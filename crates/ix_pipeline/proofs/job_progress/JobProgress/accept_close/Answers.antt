@@ -1,6 +1,6 @@
 use Rattle.std.proofs.Common.{rules, ◌≡◌, refl, true}
 use Rattle.std.proofs.lemmas.Bool.{or_right}
-use Rattle.ix_archive.specs.declared.sink.End.TheVariants.{Memory}
+use Rattle.ix_car.specs.declared.sink.End.TheVariants.{Memory}
 use Rattle.ix_pipeline.proofs.Closes.{close_arrives, no_second_close}
 use Rattle.ix_pipeline.proofs.Arrivals.{stays_or, counts_up}
 use Rattle.ix_pipeline.proofs.job_progress.JobProgress.accept_close.Goals as goal

@@ -1,7 +1,7 @@
 use Rattle.std.proofs.Common.{◌≡◌, ◌-◌, None, List}
 use Rattle.std.specs.Prelude.{Bool}
-use Rattle.ix_archive.specs.Headline.{Keeps}
-use Rattle.ix_archive.specs.declared.sink.Delivery.{Delivery}
+use Rattle.ix_car.specs.Headline.{Keeps}
+use Rattle.ix_car.specs.declared.sink.Delivery.{Delivery}
 use Rattle.ix_stages.specs.Received.{Tally}
 use Rattle.ix_pipeline.specs.JobProgress.{IsUnderWay, IsSafe}
 use Rattle.ix_pipeline.proofs.job_progress.JobProgress.deliver.Given as goal

@@ -1,5 +1,5 @@
 use Rattle.std.proofs.Common.{rules, Option, subst}
-use Rattle.ix_archive.specs.declared.sink.Delivery.{Delivery}
+use Rattle.ix_car.specs.declared.sink.Delivery.{Delivery}
 use Rattle.ix_pipeline.specs.JobProgress.{IsPoppedUnderWay}
 use Rattle.ix_pipeline.proofs.Delivering.{handed_on, handed_failed, safe_on}
 use Rattle.ix_pipeline.proofs.job_progress.JobProgress.deliver_one.Goals as goal

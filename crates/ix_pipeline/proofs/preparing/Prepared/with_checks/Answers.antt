@@ -3,7 +3,7 @@ use Rattle.std.proofs.lemmas.List.Elements.{All-weaker, All-replicate, All-push}
 use Rattle.std.proofs.lemmas.List.{length-replicate}
 use Rattle.std.specs.Vec.Iter.{into_iter_items}
 use Rattle.ix_walk.specs.JobMeaning.{IsJob}
-use Rattle.ix_archive.specs.Headline.{EachUnused}
+use Rattle.ix_car.specs.Headline.{EachUnused}
 use Rattle.ix_stages.specs.declared.lanes.LaneIn.{LaneIn}
 use Rattle.ix_stages.specs.declared.lanes.LaneOut.{LaneOut}
 use Rattle.ix_stages.specs.Claims.{IsOfClaims, SeatMeaning, new_seat}

@@ -1,6 +1,6 @@
 use Rattle.std.proofs.Common.{◌≡◌, ◌+◌, All, length, vec_len, vec_capacity}
 use Rattle.std.specs.Vec.Iter.{into_iter_items}
-use Rattle.ix_archive.specs.Headline.{EachUnused}
+use Rattle.ix_car.specs.Headline.{EachUnused}
 use Rattle.ix_stages.specs.Lanes.{IsNewLane}
 use Rattle.ix_stages.specs.Queue.{table_of}
 use Rattle.ix_pipeline.specs.Verifiers.{IsUnstarted}

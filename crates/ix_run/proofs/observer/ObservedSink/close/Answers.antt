@@ -1,5 +1,5 @@
 use Rattle.std.proofs.Common.{subst, sym}
-use Rattle.ix_archive.specs.ArchiveMeaning.{HasArchived}
+use Rattle.ix_car.specs.ArchiveMeaning.{HasArchived}
 use Rattle.ix_run.proofs.observer.ObservedSink.close.Goals as goal
 
 pub returns-clause-kept : goal.returns-clause-kept

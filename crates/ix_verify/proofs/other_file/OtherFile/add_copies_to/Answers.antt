@@ -1,5 +1,5 @@
 use Rattle.std.proofs.Common.{◌++◌, ◌∙◌, ap}
-use Rattle.ix_car.specs.Copies.{copies_of}
+use Rattle.ix_sections.specs.Copies.{copies_of}
 use Rattle.ix_verify.proofs.FileFaults.{more-copies}
 use Rattle.ix_verify.proofs.other_file.OtherFile.add_copies_to.Goals as goal
 

@@ -1,5 +1,5 @@
 use Rattle.std.proofs.Common.{◌∙◌, ap}
-use Rattle.ix_car.specs.Sections.{with_sections}
+use Rattle.ix_sections.specs.Sections.{with_sections}
 use Rattle.ix_verify.proofs.FileFaults.{more-blocks}
 use Rattle.ix_verify.proofs.other_file.OtherFile.add_to.Goals as goal
 

@@ -1,6 +1,6 @@
 use Rattle.std.proofs.lemmas.List.{length-map}
 use Rattle.ix_cid.specs.Cid.{codec_of, hash_code_of}
-use Rattle.ix_car.specs.Sections.{SectionMeaning}
+use Rattle.ix_sections.specs.Sections.{SectionMeaning}
 use Rattle.ix_verify.specs.Tallied.{codecs_of, hash_codes_of}
 use Rattle.ix_verify.proofs.summary.Summary.add.Goals as goal
 

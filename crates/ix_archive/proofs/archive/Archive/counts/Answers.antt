@@ -1,5 +1,0 @@
-use Rattle.std.proofs.Common.{rules}
-use Rattle.ix_archive.proofs.archive.Archive.counts.Goals as goal
-
-pub returns : goal.returns
-returns g c = search rules

@@ -1,5 +1,0 @@
-use Rattle.ix_archive.proofs.Archives.{faithful-archived}
-use Rattle.ix_archive.proofs.law.faithful_is_archived.Goals as goal
-
-pub returns : goal.returns
-returns c = faithful-archived

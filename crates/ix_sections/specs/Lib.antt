@@ -1,0 +1,11 @@
+pub mod Reading
+pub mod Payload
+pub mod Gives
+pub mod Reads
+pub mod Sections
+pub mod SectionView
+pub mod Copies
+pub mod Writing
+pub mod FaultWords
+pub mod Examples
+pub mod Standing
