@@ -2,7 +2,7 @@
 use Rattle.std.specs.Prelude.{◌≡◌, ℕ, Bool, true, false, List, ◌++◌, Option, None, Some, codes}
 use Rattle.std.specs.Fmt.{decimal}
 use Rattle.ix_walk.specs.JobMeaning.{JobMeaning}
-use Rattle.ix_receive.specs.declared.allow_missing.AllowMissing.{AllowMissing}
+use Rattle.ix_verdict.specs.declared.allow_missing.AllowMissing.{AllowMissing}
 use Rattle.ix_receive.specs.declared.fault.ReceiveFault.{ReceiveFault}
 use Rattle.ix_receive.specs.declared.fault.ReceiveFault.TheVariants as received
 use Rattle.ix_own_archive.specs.declared.fault.ArchiveFault.{ArchiveFault}

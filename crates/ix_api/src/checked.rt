@@ -4,9 +4,8 @@ ghost use Rattle.std.specs.Prelude.{◌≡◌, true, IfOk, OnErr};
 ghost use Rattle.ix_api.specs.Checks.{IsCheckOf, IsRejectedBy, IsBlamed, IsMissingOr, ran_out, is_memory};
 
 use ix_cid::Cid;
-use ix_own_archive::{
-    AllowMissing, ArchiveFault, ArchiveReason, Counts, ReceiveFault, check_archive,
-};
+use ix_own_archive::{ArchiveFault, ArchiveReason, Counts, ReceiveFault, check_archive};
+use ix_verdict::AllowMissing;
 use ix_walk::Job;
 use std::alloc::{AllocError, Global};
 

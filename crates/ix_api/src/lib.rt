@@ -28,7 +28,7 @@ pub use checked::{Checked, Rejection, check};
 pub use exported::{Exported, export, export_request, export_without};
 pub use failure::Failure;
 pub use input::{Added, add_block, add_car, job_of_line, read_store, selector_of_json};
-pub use ix_own_archive::{AllowMissing, Counts};
+pub use ix_own_archive::Counts;
 pub use job_parts::{PartsFault, job_of_parts};
 pub use object::{Object, Piece, freeze, share};
 pub use request::Request;

@@ -15,7 +15,7 @@ use Rattle.ix_api.specs.declared.object.Object.TheVariants as held
 use Rattle.ix_api.specs.declared.input.Added.{Added}
 use Rattle.ix_api.specs.declared.input.Added.TheVariants as added
 use Rattle.ix_api.specs.declared.exported.Exported.{Exported}
-use Rattle.ix_receive.specs.declared.allow_missing.AllowMissing.{AllowMissing}
+use Rattle.ix_verdict.specs.declared.allow_missing.AllowMissing.{AllowMissing}
 use Rattle.ix_receive.specs.declared.counts.Counts.{Counts}
 use Rattle.ix_api.specs.declared.checked.Checked.{Checked}
 use Rattle.ix_api.specs.declared.checked.Rejection.{Rejection}

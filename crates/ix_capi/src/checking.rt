@@ -7,7 +7,8 @@ ghost use Rattle.ix_capi.specs.Calls.{ChecksTo};
 use crate::filling::{fill, fill_with};
 use crate::handle::Handle;
 use crate::status::Status;
-use ix_api::{AllowMissing, Checked, Object, check};
+use ix_api::{Checked, Object, check};
+use ix_verdict::AllowMissing;
 use std::alloc::{AllocError, Global};
 
 /// Fills a handle with what is found of an archive that may be the own one of a job.

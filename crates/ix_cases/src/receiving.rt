@@ -9,12 +9,12 @@ use ix_base::Base;
 use ix_case_formats::cids::cid_of;
 use ix_case_formats::texts::{bytes_of_hex, two_words};
 use ix_own_archive::{
-    AllowMissing, Counts, ExpectedHeader, ReceiveFault, StreamFault, StreamLimits, StreamReceiver,
-    check_archive,
+    Counts, ExpectedHeader, ReceiveFault, StreamFault, StreamLimits, StreamReceiver, check_archive,
 };
 use ix_receive::Receiver;
 use ix_sections::Payload;
 use ix_store::{PlaceSet, Store};
+use ix_verdict::AllowMissing;
 use ix_walk::Job;
 use std::alloc::{AllocError, Global};
 use std::thread::Threads;

@@ -6,7 +6,7 @@ use Rattle.std.specs.List.{list_any, filter}
 use Rattle.ix_walk.specs.JobMeaning.{JobMeaning}
 use Rattle.ix_car.specs.declared.archive.Skip.{Skip}
 use Rattle.ix_car.specs.declared.sink.End.{End}
-use Rattle.ix_jobs.specs.declared.missing.AllowMissing.{AllowMissing}
+use Rattle.ix_verdict.specs.declared.allow_missing.AllowMissing.{AllowMissing}
 use Rattle.ix_jobs.specs.declared.results.JobResult.{JobResult}
 use Rattle.ix_jobs.specs.Missing.{is_root}
 use Rattle.ix_jobs.specs.Report.{is_done}

@@ -11,8 +11,9 @@ use crate::outputs::job_path;
 use crate::write_errors::WriteErrors;
 use ix_car::{End, Skip};
 use ix_check::Verdict;
-use ix_jobs::{AllowMissing, JobResult, is_root};
+use ix_jobs::{JobResult, is_root};
 use ix_run::is_complete;
+use ix_verdict::AllowMissing;
 use ix_walk::Job;
 use std::alloc::{AllocError, Global};
 

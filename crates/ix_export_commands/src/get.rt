@@ -14,7 +14,7 @@ use ix_cli_io::{
     occupy_std_fds, print_report,
 };
 use ix_job_errors::{job_fault_words, lacks_an_edge};
-use ix_jobs::{AllowMissing, JobResult, JobWords, SelectorWord, jobs_of_words, selector_hex};
+use ix_jobs::{JobResult, JobWords, SelectorWord, jobs_of_words, selector_hex};
 use ix_load::{
     BlockFiles, Indexed, KnownInputs, LoadedBlocks, Prefetching, RootPaths, RootWords, Roots,
     RunReport, SCOPE, Scope, ThreadCounts, allowed_missing, clones, forget_store, no_jobs,
@@ -28,6 +28,7 @@ use ix_options::{
 };
 use ix_run::RunFault;
 use ix_store::Store;
+use ix_verdict::AllowMissing;
 use ix_walk::Job;
 use std::alloc::{AllocError, Global};
 use std::fs::File;

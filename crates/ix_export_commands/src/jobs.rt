@@ -13,7 +13,6 @@ use ix_cli_io::{
     WriteErrors, check_memory, discard_outputs, failed_writes, has_all_asked, make_outputs,
     occupy_std_fds, publish_outputs, read_input, without_archived,
 };
-use ix_jobs::AllowMissing;
 use ix_load::{
     BlockFiles, Indexed, KnownInputs, LoadedBlocks, PART, Prefetching, RunOutputs, RunReport,
     ThreadCounts, allowed_missing, forget_store, given_part, job_file_failure, refused_inputs,
@@ -24,6 +23,7 @@ use ix_options::{
     WITHOUT, WITHOUT_LIST, most_input, naming, print_all, print_notes, progress_mode,
 };
 use ix_run::{JobChoice, RunFault, load_jobs};
+use ix_verdict::AllowMissing;
 use ix_walk::Job;
 use std::alloc::{AllocError, Global};
 use std::fs::File;

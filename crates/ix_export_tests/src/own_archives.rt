@@ -4,10 +4,10 @@ use ix_cbor::decode;
 use ix_cid::Cid;
 use ix_fixtures::bytes_of;
 use ix_own_archive::{
-    AllowMissing, ArchiveReason, ExpectedHeader, ReceiveFault, StreamLimits, StreamReceiver,
-    check_archive,
+    ArchiveReason, ExpectedHeader, ReceiveFault, StreamLimits, StreamReceiver, check_archive,
 };
 use ix_selector::Selector;
+use ix_verdict::AllowMissing;
 use ix_walk::Job;
 use std::alloc::{AllocError, Global};
 use std::test::Fail;

@@ -1,7 +1,8 @@
 //! Whether a file is the own archive of a job, and the first place at which it isn't.
 
 use ix_cid::Cid;
-use ix_own_archive::{AllowMissing, ArchiveFault, ArchiveReason, ReceiveFault, check_archive};
+use ix_own_archive::{ArchiveFault, ArchiveReason, ReceiveFault, check_archive};
+use ix_verdict::AllowMissing;
 use ix_walk::Job;
 use std::alloc::{AllocError, Global};
 

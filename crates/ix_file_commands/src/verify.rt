@@ -9,7 +9,6 @@ use crate::verify_spec::{ALL, BLOCKS_ONLY, EXACT, FILES, PATHS, PREFER_SOUND, QU
 use crate::wanted::Wanted;
 use clap::ArgMatches;
 use clap::error::ErrorKind as UsageKind;
-use ix_cid::code::{DAG_CBOR, RAW};
 use ix_cli_io::{
     ANY_SIZE, Causes, ErrorCode, Failure, Progress, ProgressMode, REFUSED, STANDARD_INPUT,
     check_memory, size_of_all,
@@ -22,9 +21,10 @@ use ix_options::{
 use ix_sections::read_header;
 use ix_store::Store;
 use ix_trace::trace;
+use ix_verdict::AllowMissing;
 use ix_verify::{
-    AllowMissing, Beside, Copies, Findings, JobWalk, Observer, OtherFile, Scope, load_beside,
-    verify_beside, verify_job, verify_sections,
+    Beside, Copies, Findings, JobWalk, Observer, OtherFile, Scope, load_beside, verify_beside,
+    verify_job, verify_sections,
 };
 use ix_walk::Job;
 use std::alloc::{AllocError, Global};
@@ -162,7 +162,7 @@ impl<'a> VerifyCommand<'a> {
             } else {
                 Copies::First
             },
-            allowed: given_allowed(alloc, words)?,
+            allowed: allowed_missing(alloc, &SPEC, words)?,
             prints_all: ALL.is_given(words),
             has_paths: PATHS.is_given(words),
             is_json: JSON.is_given(words),
@@ -580,20 +580,6 @@ impl<'a, 'p, R: AllocGlobal + Clock + Eprint> Observer for Observing<'a, 'p, R> 
 fn print_later<R: AllocGlobal + Eprint>(rt: &R, path: &str, count: usize) {
     if count > 0 {
         print_notes(rt, later_note(rt.alloc(), path, count));
-    }
-}
-
-// Returns which links may lead to blocks that aren't there, if that was given.
-fn given_allowed<'a>(
-    alloc: Global,
-    words: &ArgMatches<'a>,
-) -> Result<Option<AllowMissing>, clap::Error> {
-    match allowed_missing(alloc, &SPEC, words)? {
-        Some(which) => Ok(Some(AllowMissing {
-            raw: which.allows(RAW),
-            dag_cbor: which.allows(DAG_CBOR),
-        })),
-        None => Ok(None),
     }
 }
 

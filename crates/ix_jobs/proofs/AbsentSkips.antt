@@ -2,7 +2,7 @@
 use Rattle.std.proofs.Common.{◌≡◌, ◌⊎◌, inl, inr, ℕ, suc, ◌+◌, Bool, true, false, not, cond, List, [], ◌∷◌, ◌++◌, length, refl, sym, ap, subst, ◌∙◌, arith, append_assoc, append-nil}
 use Rattle.std.specs.List.{filter}
 use Rattle.ix_walk.specs.JobMeaning.{JobMeaning}
-use Rattle.ix_jobs.specs.declared.missing.AllowMissing.{AllowMissing}
+use Rattle.ix_verdict.specs.declared.allow_missing.AllowMissing.{AllowMissing}
 use Rattle.ix_jobs.specs.declared.results.JobResult.{JobResult}
 use Rattle.ix_jobs.specs.Missing.{absent_count, IsReported, EachReported}
 

@@ -4,11 +4,11 @@ ghost use Rattle.std.specs.Prelude.{◌≡◌, IfOk};
 ghost use Rattle.ix_verdict.specs.Verdict.{is_missing};
 ghost use Rattle.ix_jobs.specs.Missing.{is_root, is_absent, absent_count, IsReported, EachReported};
 
-use crate::missing::AllowMissing;
 use crate::results::JobResult;
 use ix_car::Skip;
 use ix_check::Verdict;
 use ix_cid::Cid;
+use ix_verdict::AllowMissing;
 use ix_walk::Job;
 use std::alloc::{AllocError, Global};
 

@@ -2,9 +2,9 @@
 
 use clap::ArgMatches;
 use clap::error::ErrorKind;
-use ix_jobs::{AllowMissing, UnknownCodec};
 use ix_options::{ALLOW_MISSING, CommandSpec};
 use ix_store::Store;
+use ix_verdict::{AllowMissing, UnknownCodec};
 use std::alloc::{AllocError, Global};
 use std::mem::ManuallyDrop;
 use std::sync::Arc;

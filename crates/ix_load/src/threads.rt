@@ -12,12 +12,13 @@ use clap::ArgMatches;
 use ix_cli_io::{
     ClosingArchives, NamingRule, Output, Progress, WriteErrors, buffers_of, writers_to,
 };
-use ix_jobs::{AllowMissing, JobResult, report_with_absent, separate_absent, status};
+use ix_jobs::{JobResult, report_with_absent, separate_absent, status};
 use ix_options::{
     Host, VERIFIERS, VERIFIERS_4, WALKERS, WALKERS_4, at_most_processors, available_processors,
 };
 use ix_pipeline::{Plan, Prefetch};
 use ix_run::{Observer, RunFault, RunInput, Unobserved, run_observed};
+use ix_verdict::AllowMissing;
 use ix_walk::Job;
 use std::alloc::{AllocError, Global};
 use std::io::Write;

@@ -4,7 +4,7 @@ use Rattle.std.specs.Prelude.{Some, flat_map}
 use Rattle.ix_store.specs.Store.{Blocks}
 use Rattle.ix_walk.specs.JobMeaning.{JobMeaning}
 use Rattle.ix_sections.specs.Writing.{header_of, section_with}
-use Rattle.ix_receive.specs.declared.allow_missing.AllowMissing.{AllowMissing}
+use Rattle.ix_verdict.specs.declared.allow_missing.AllowMissing.{AllowMissing}
 use Rattle.ix_receive.specs.declared.counts.Counts.{Counts}
 use Rattle.ix_receive.specs.Own.{archive_bytes}
 use Rattle.ix_receive.specs.Receiving.{AreReceived}

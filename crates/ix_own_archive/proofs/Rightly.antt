@@ -9,7 +9,7 @@ use Rattle.ix_car.specs.Laws.{once}
 use Rattle.ix_walk.proofs.Links.{all-append}
 use Rattle.ix_sections.specs.Writing.{header_of}
 use Rattle.ix_sections.specs.Reading.{Fault, section_at}
-use Rattle.ix_receive.specs.declared.allow_missing.AllowMissing.{AllowMissing}
+use Rattle.ix_verdict.specs.declared.allow_missing.AllowMissing.{AllowMissing}
 use Rattle.ix_receive.specs.declared.fault.ReceiveFault.{ReceiveFault}
 use Rattle.ix_receive.specs.declared.fault.ReceiveFault.TheVariants as received
 use Rattle.ix_receive.specs.Own.{archive_bytes, AreTheirOwnWith, IsItsOwnWith}

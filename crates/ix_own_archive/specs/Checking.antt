@@ -6,7 +6,7 @@ use Rattle.ix_car.specs.Laws.{once}
 use Rattle.ix_sections.specs.Gives.{FailsAs}
 use Rattle.ix_sections.specs.Reading.{header_at, section_at}
 use Rattle.ix_sections.specs.Writing.{header_of, section_with}
-use Rattle.ix_receive.specs.declared.allow_missing.AllowMissing.{AllowMissing}
+use Rattle.ix_verdict.specs.declared.allow_missing.AllowMissing.{AllowMissing}
 use Rattle.ix_receive.specs.declared.counts.Counts.{Counts}
 use Rattle.ix_receive.specs.declared.fault.ReceiveFault.{ReceiveFault}
 use Rattle.ix_receive.specs.declared.fault.ReceiveFault.TheVariants as received

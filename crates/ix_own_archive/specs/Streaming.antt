@@ -10,7 +10,7 @@ use Rattle.ix_walk.specs.JobMeaning.{JobMeaning, coded_job}
 use Rattle.ix_sections.specs.declared.fault.CarKind.{CarKind}
 use Rattle.ix_sections.specs.Reading.{header_at}
 use Rattle.ix_sections.specs.Writing.{with_length, header_of, section_with}
-use Rattle.ix_receive.specs.declared.allow_missing.AllowMissing.{AllowMissing}
+use Rattle.ix_verdict.specs.declared.allow_missing.AllowMissing.{AllowMissing}
 use Rattle.ix_receive.specs.declared.counts.Counts.{Counts}
 use Rattle.ix_store.specs.Store.{Blocks}
 use Rattle.ix_receive.specs.Receiving.{AreReceived}

@@ -10,10 +10,10 @@ ghost use Rattle.ix_own_archive.specs.Checking.{IsAccepted, IsJobsOwn, IsFaultAt
 
 use crate::fault::{ArchiveFault, ArchiveReason};
 use ix_cid::Cid;
-use ix_receive::{AllowMissing, Counts, Receiver, law};
+use ix_receive::{Counts, Receiver, law};
 use ix_sections::{CarFault, CarKind, header_of, read_header, read_section};
 use ix_store::verdict_on;
-use ix_verdict::Verdict;
+use ix_verdict::{AllowMissing, Verdict};
 use ix_walk::Job;
 use std::alloc::Global;
 

@@ -37,7 +37,7 @@ mod stream_request;
 
 pub use check::check_archive;
 pub use fault::{ArchiveFault, ArchiveReason};
-pub use ix_receive::{AllowMissing, Counts, ReceiveFault};
+pub use ix_receive::{Counts, ReceiveFault};
 pub use stream::StreamReceiver;
 pub use stream_asked::{ExpectedHeader, StreamLimits};
 pub use stream_fault::{StreamFault, StreamReason};

@@ -4,8 +4,8 @@ ghost use Rattle.std.specs.Prelude.{◌≡◌};
 ghost use Rattle.ix_sections.specs.Writing.{header_of};
 
 use crate::stream_asked::{ExpectedHeader, StreamLimits};
-use ix_receive::AllowMissing;
 use ix_store::Store;
+use ix_verdict::AllowMissing;
 use ix_walk::Job;
 use std::alloc::Global;
 

@@ -10,6 +10,7 @@ use Rattle.std.proofs.lemmas.Map.Text.{is_eq-slice_cmp}
 use Rattle.std.proofs.lemmas.List.Elements.{Contains-append_left, Contains-push, Contains-push_cases}
 use Rattle.std.proofs.lemmas.List.Sums.{sum_by-append, count_by-le-length}
 use Rattle.std.proofs.lemmas.Slice.Eq.{bytes_eq-Decides}
+use Rattle.ix_verdict.specs.AllowMissing.{may_lack}
 use Rattle.ix_verdict.specs.Verdict.{passes as verdict_passes}
 use Rattle.ix_selector.specs.Pattern.{Pattern}
 use Rattle.ix_store.specs.Store.{Blocks}
@@ -18,10 +19,10 @@ use Rattle.ix_check.specs.Verdict.{verdict_of}
 use Rattle.ix_walk.specs.JobMeaning.{JobMeaning}
 use Rattle.ix_walk.specs.Walking.{Going, data_inside, links_inside, root_link}
 use Rattle.ix_receive.specs.Waiting.{all_waiting}
-use Rattle.ix_receive.specs.declared.allow_missing.AllowMissing.{AllowMissing}
+use Rattle.ix_verdict.specs.declared.allow_missing.AllowMissing.{AllowMissing}
 use Rattle.ix_receive.specs.declared.traversal.Traversal.{Traversal}
 use Rattle.ix_receive.specs.declared.traversal.Skips.{Skips}
-use Rattle.ix_receive.specs.Missing.{may_lack, lacks_block, is_unread}
+use Rattle.ix_receive.specs.Missing.{lacks_block, is_unread}
 use Rattle.ix_receive.specs.Traversal.{visited, expanded_by, links_of, IsTraversed, Expands, as_pending}
 use Rattle.ix_receive.specs.Passing.{has, KnowsSkips, HasAlso, IsNoted, IsNotedMissing, IsNotedThere, IsBefore, IsStopped, IsPassed}
 use Rattle.ix_receive.proofs.Expansions.{cond-or}

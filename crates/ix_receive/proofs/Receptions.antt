@@ -32,7 +32,7 @@ use Rattle.ix_walk.proofs.Starts.{IsFollowed}
 use Rattle.ix_receive.specs.Waiting.{all_waiting, IsNextLink}
 use Rattle.ix_car.specs.Archive.{is_sound}
 use Rattle.ix_car.specs.Laws.{once}
-use Rattle.ix_receive.specs.declared.allow_missing.AllowMissing.{AllowMissing}
+use Rattle.ix_verdict.specs.declared.allow_missing.AllowMissing.{AllowMissing}
 use Rattle.ix_receive.specs.declared.counts.Counts.{Counts}
 use Rattle.ix_receive.specs.declared.traversal.Traversal.{Traversal}
 use Rattle.ix_receive.specs.Receiving.{first_visits, AreReceived, IsNextSection}

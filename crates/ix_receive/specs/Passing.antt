@@ -5,18 +5,19 @@ use Rattle.std.specs.List.{Contains, count_by}
 use Rattle.std.specs.Ordering.{nat_cmp}
 use Rattle.std.specs.Cmp.Lexicographic.{slice_cmp}
 use Rattle.std.specs.BTreeSet.{BTreeSet, contains}
+use Rattle.ix_verdict.specs.AllowMissing.{may_lack}
 use Rattle.ix_store.specs.Store.{Blocks}
 use Rattle.ix_walk.specs.declared.subtree.PendingLink.{PendingLink}
 use Rattle.ix_walk.specs.JobMeaning.{JobMeaning}
 use Rattle.ix_walk.specs.Once.{cids_of}
 use Rattle.ix_walk.specs.Visits.{arrivals_of, is_over_limit}
 use Rattle.ix_car.specs.Laws.{once}
-use Rattle.ix_receive.specs.declared.allow_missing.AllowMissing.{AllowMissing}
+use Rattle.ix_verdict.specs.declared.allow_missing.AllowMissing.{AllowMissing}
 use Rattle.ix_receive.specs.declared.fault.ReceiveFault.{ReceiveFault}
 use Rattle.ix_receive.specs.declared.fault.ReceiveFault.TheVariants.{Unsound, InBase, Repeated, OutOfOrder, NotAskedFor, Missing, Root, Limit, Ended, Memory}
 use Rattle.ix_receive.specs.declared.traversal.Traversal.{Traversal}
 use Rattle.ix_receive.specs.declared.traversal.Skips.{Skips}
-use Rattle.ix_receive.specs.Missing.{may_lack, lacks_block, is_unread}
+use Rattle.ix_receive.specs.Missing.{lacks_block, is_unread}
 use Rattle.ix_receive.specs.Traversal.{AreSound, visited, expanded_by, IsTraversed, links_of}
 
 -- a set has a CID

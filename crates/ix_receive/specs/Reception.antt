@@ -9,7 +9,7 @@ use Rattle.ix_walk.specs.Once.{cids_of}
 use Rattle.ix_walk.specs.Visits.{arrivals_of, is_over_limit}
 use Rattle.ix_car.specs.Archive.{is_sound}
 use Rattle.ix_car.specs.Laws.{once}
-use Rattle.ix_receive.specs.declared.allow_missing.AllowMissing.{AllowMissing}
+use Rattle.ix_verdict.specs.declared.allow_missing.AllowMissing.{AllowMissing}
 use Rattle.ix_receive.specs.declared.fault.ReceiveFault.{ReceiveFault}
 use Rattle.ix_receive.specs.declared.fault.ReceiveFault.TheVariants.{Unsound, InBase, Repeated, OutOfOrder, NotAskedFor, Missing, Root, Limit, Ended, Memory}
 use Rattle.ix_receive.specs.declared.counts.Counts.{Counts}

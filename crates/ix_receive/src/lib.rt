@@ -24,7 +24,6 @@
 //! archive is checked section by section, as it comes.
 #![tactic(auto)]
 
-mod allow_missing;
 mod base;
 mod counts;
 mod fault;
@@ -36,7 +35,6 @@ mod section;
 mod sections;
 mod traversal;
 
-pub use allow_missing::AllowMissing;
 pub use counts::Counts;
 pub use fault::ReceiveFault;
 pub use receiver::Receiver;

@@ -2,8 +2,8 @@
 
 ghost use Rattle.std.specs.Prelude.{◌≡◌, ◌+◌, ◌<◌, ◌^◌, IfOk, IfErr, OnOk, MatchOption};
 ghost use Rattle.std.specs.List.{Contains};
+ghost use Rattle.ix_verdict.specs.AllowMissing.{may_lack};
 ghost use Rattle.ix_receive.specs.Base.{store_of};
-ghost use Rattle.ix_receive.specs.Missing.{may_lack};
 ghost use Rattle.ix_receive.specs.Traversal.{as_pending, visited};
 ghost use Rattle.ix_receive.specs.Passing.{CanNote, IsNoted, IsNotedMissing, IsPassing, IsBefore, IsStopped, IsPassed, IsFound, IsNotFound, IsAtEnd, IsNotAtEnd};
 
@@ -19,7 +19,7 @@ use std::alloc::AllocError;
 fn may_lack(asked: &Request<'_>, cid: &Cid) -> bool
     ensures { result ≡ may_lack asked.now.allowed asked.now.job.now.roots cid.now }
 {
-    asked.allowed.allows(cid) && !asked.job.roots().contains(cid)
+    asked.allowed.allows(cid.codec()) && !asked.job.roots().contains(cid)
 }
 
 // Notes the visit of a CID, if its block is missing or it isn't read. Returns whether that may be.

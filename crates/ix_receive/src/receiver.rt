@@ -7,7 +7,6 @@ ghost use Rattle.ix_receive.specs.Keeping.{kept_of};
 ghost use Rattle.ix_receive.specs.Roots.{RootsPass, IsRootRefused};
 ghost use Rattle.ix_receive.specs.Reception.{nothing_received, nothing_received_with, IsReceiving, IsReceived, Receives, reception_with, IsRefused, IsRightlyRefused, IsWhole, IsUnfinished};
 
-use crate::allow_missing::AllowMissing;
 use crate::base::Base;
 use crate::counts::Counts;
 use crate::fault::ReceiveFault;
@@ -19,7 +18,7 @@ use crate::traversal::{Skips, Traversal, expand_link};
 use ix_cid::Cid;
 use ix_selector::law;
 use ix_store::{Store, verdict_on};
-use ix_verdict::Verdict;
+use ix_verdict::{AllowMissing, Verdict};
 use ix_walk::Job;
 use std::alloc::Global;
 use std::collections::BTreeSet;

@@ -1,6 +1,6 @@
 //! What a receiver asks for.
 
-use crate::allow_missing::AllowMissing;
+use ix_verdict::AllowMissing;
 use ix_walk::Job;
 use std::alloc::Global;
 

@@ -7,7 +7,6 @@ pub use crate::spec::SPEC;
 use crate::spec::{ANY_HEADER, FILE, MAX_BLOCK, OUT, PATHS, WHOLE, WITH};
 use crate::stream::{Ended, Incoming, Outcome, Reception, Request};
 use clap::ArgMatches;
-use ix_cid::code::{DAG_CBOR, RAW};
 use ix_cli_io::{
     ANY_SIZE, Failure, Naming, Output, Progress, ProgressMode, Published, REFUSED, STANDARD_INPUT,
     check_standard_output, occupy_std_fds,
@@ -17,8 +16,9 @@ use ix_options::{
     Host, JSON, NO_SYNC, QUIET, Terminals, at_most_processors, available_processors, given_size,
     output_path, progress_mode,
 };
-use ix_own_archive::{AllowMissing, ExpectedHeader};
+use ix_own_archive::ExpectedHeader;
 use ix_store::Store;
+use ix_verdict::AllowMissing;
 use ix_walk::Job;
 use std::alloc::{AllocError, Global};
 use std::fs;
@@ -109,13 +109,7 @@ impl<'a> ReceiveCommand<'a> {
     ) -> Result<ReceiveCommand<'a>, Failure> {
         let path = output_path(alloc, &SPEC, &OUT, words, terminals.output, "archive")?;
         let most = given_size(alloc, &SPEC, words, &MAX_BLOCK, MOST_SECTION)?;
-        let allowed = match allowed_missing(alloc, &SPEC, words)? {
-            Some(which) => Some(AllowMissing {
-                raw: which.allows(RAW),
-                dag_cbor: which.allows(DAG_CBOR),
-            }),
-            None => None,
-        };
+        let allowed = allowed_missing(alloc, &SPEC, words)?;
         Ok(ReceiveCommand {
             input: FILE.optional_text(words).unwrap_or(STANDARD_INPUT),
             path,

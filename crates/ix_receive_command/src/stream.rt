@@ -8,12 +8,12 @@ use ix_cid::read_varint;
 use ix_cli_io::Progress;
 use ix_options::words_of;
 use ix_own_archive::{
-    AllowMissing, ArchiveReason, Counts, ExpectedHeader, StreamFault, StreamLimits, StreamReason,
-    StreamReceiver,
+    ArchiveReason, Counts, ExpectedHeader, StreamFault, StreamLimits, StreamReason, StreamReceiver,
 };
 use ix_read_ahead::ReadAhead;
 use ix_sections::{CarKind, header_of, read_header, read_section};
 use ix_store::Store;
+use ix_verdict::AllowMissing;
 use ix_verify::{Kind, kind_of};
 use ix_walk::Job;
 use std::alloc::{AllocError, Global};

@@ -5,3 +5,4 @@ pub mod Verdict
 pub mod VerdictWords
 pub mod Needed
 pub mod Examples
+pub mod AllowMissing

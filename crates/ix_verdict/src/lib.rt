@@ -14,12 +14,16 @@
 //!     }
 //! };
 //! ```
+//!
+//! `AllowMissing` says which links may lead to blocks that aren't there, by the codecs of their CIDs.
 #![tactic(auto)]
 
+mod allow_missing;
 mod digest;
 mod needed;
 mod verdict;
 
+pub use allow_missing::{AllowMissing, UnknownCodec};
 pub use digest::has_digest;
 pub use needed::{Needed, bytes_needed};
 pub use verdict::Verdict;

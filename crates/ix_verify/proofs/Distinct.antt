@@ -7,12 +7,12 @@ use Rattle.std.proofs.lemmas.Slice.Eq.{bytes_eq-Decides}
 use Rattle.std.proofs.lemmas.Bool.{not-true, not-false}
 use Rattle.std.proofs.lemmas.Bool.Decides.{same_from_decides}
 use Rattle.std.proofs.Math.Bool.{or-false}
+use Rattle.ix_verdict.specs.AllowMissing.{allows_cid, may_lack}
 use Rattle.ix_cid.proofs.Lists.{drop_read}
 use Rattle.ix_store.specs.Store.{Blocks, has_cid, with_block, position_of}
 use Rattle.ix_store.proofs.Indexes.{has-by}
 use Rattle.ix_walk.specs.Once.{first_ones}
-use Rattle.ix_verify.specs.declared.found.AllowMissing.{AllowMissing}
-use Rattle.ix_verify.specs.Found.{may_lack_by, may_lack}
+use Rattle.ix_verdict.specs.declared.allow_missing.AllowMissing.{AllowMissing}
 use Rattle.ix_verify.specs.Walked.{roots_as_blocks}
 use Rattle.ix_walk.proofs.Firsts.{filter-both, unseen, unseen-seen, unseen-none}
 
@@ -97,14 +97,14 @@ in-set [] c = refl
 in-set (root ∷ roots) c = ap (λ (t : Bool). bytes_eq root c || t) (in-set roots c)
 
 -- so what may be lacking is the same by the set and by the roots
-pub lack-by-set : (allowed : AllowMissing) (set : Blocks) (roots : List (List ℕ)) → set ≡ roots_as_blocks roots → (λ (c : List ℕ). may_lack_by allowed c && not (has_cid set c)) ≡ may_lack allowed roots
+pub lack-by-set : (allowed : AllowMissing) (set : Blocks) (roots : List (List ℕ)) → set ≡ roots_as_blocks roots → (λ (c : List ℕ). allows_cid allowed c && not (has_cid set c)) ≡ may_lack allowed roots
 lack-by-set allowed set roots is =
     let same : (c : List ℕ) → has_cid set c ≡ list_any (λ root. bytes_eq root c) roots = λ c. ap (λ (s : Blocks). has_cid s c) is ∙ in-set roots c in
-    λ i c. may_lack_by allowed c && not (same c i)
+    λ i c. allows_cid allowed c && not (same c i)
 
 -- a CID that isn't found in the set, and whose codec allows for it, may be lacking
-pub may-lack : (allowed : AllowMissing) (set : Blocks) (c : List ℕ) (allows none : Bool) (o : Option ℕ) → allows ≡ may_lack_by allowed c → allows ≡ true → o ≡ position_of set c → is_some o ≡ not none
-    → none ≡ (may_lack_by allowed c && not (has_cid set c))
+pub may-lack : (allowed : AllowMissing) (set : Blocks) (c : List ℕ) (allows none : Bool) (o : Option ℕ) → allows ≡ allows_cid allowed c → allows ≡ true → o ≡ position_of set c → is_some o ≡ not none
+    → none ≡ (allows_cid allowed c && not (has_cid set c))
 may-lack allowed set c allows none o is on found some =
     let there : has_cid set c ≡ not none = has-by set c o (sym found) ∙ some in
     sym (not-twice none) ∙ ap not (sym there) ∙ sym (ap (λ (t : Bool). t && not (has_cid set c)) (sym is ∙ on))

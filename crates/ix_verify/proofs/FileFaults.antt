@@ -12,7 +12,7 @@ use Rattle.ix_car.specs.declared.archive.Skip.{Skip}
 use Rattle.ix_sections.proofs.Sections.{FailsAs-along}
 use Rattle.ix_sections.proofs.SectionLists.{blocks-after_sections}
 use Rattle.ix_verify.specs.declared.noted.Noted.{Noted}
-use Rattle.ix_verify.specs.declared.found.AllowMissing.{AllowMissing}
+use Rattle.ix_verdict.specs.declared.allow_missing.AllowMissing.{AllowMissing}
 use Rattle.ix_verify.specs.declared.found.Copies.{Copies}
 use Rattle.ix_verify.specs.declared.found.Copies.TheVariants.{First, Sound}
 use Rattle.ix_verify.specs.Beside.{sections_read, IsRead, blocks_beside, with_copies_in}

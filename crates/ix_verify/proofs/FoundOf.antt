@@ -7,14 +7,15 @@ use Rattle.ix_walk.specs.Once.{first_ones}
 use Rattle.ix_sections.specs.Sections.{SectionMeaning, section_list, roots_of}
 use Rattle.ix_verify.specs.declared.file.Judged.{Judged}
 use Rattle.ix_verify.specs.declared.reach.Reached.{Reached}
-use Rattle.ix_verify.specs.declared.found.AllowMissing.{AllowMissing}
+use Rattle.ix_verdict.specs.declared.allow_missing.AllowMissing.{AllowMissing}
 use Rattle.ix_verify.specs.declared.found.Copies.{Copies}
 use Rattle.ix_verify.specs.declared.found.Copies.TheVariants.{First}
 use Rattle.ix_verify.specs.declared.found.Findings.{Findings}
 use Rattle.ix_verify.specs.declared.found.Scope.TheVariants.{Sections as OfSections, Graph as OfGraph}
 use Rattle.ix_verify.specs.Beside.{blocks_beside}
 use Rattle.ix_verify.specs.Counted.{IsJudgedOf, findings_of}
-use Rattle.ix_verify.specs.Found.{allow_none, may_lack, store_of, IsReached, IsFoundBeside, IsFoundFor, IsFoundOf}
+use Rattle.ix_verdict.specs.AllowMissing.{allow_none, may_lack}
+use Rattle.ix_verify.specs.Found.{store_of, IsReached, IsFoundBeside, IsFoundFor, IsFoundOf}
 use Rattle.ix_verify.specs.Walked.{IsReachedBy, IsReachedFrom, IsReachedFromNone}
 use Rattle.ix_verify.proofs.FileFaults.{reached-in, later-in}
 

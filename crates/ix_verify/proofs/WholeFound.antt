@@ -15,7 +15,8 @@ use Rattle.ix_verify.specs.declared.found.Findings.{Findings}
 use Rattle.ix_verify.specs.declared.found.Unsound.{Unsound}
 use Rattle.ix_verify.specs.Noting.{IsNoted}
 use Rattle.ix_verify.specs.Outcome.{section_finding, link_finding}
-use Rattle.ix_verify.specs.Found.{job_below, verified_job, allow_none, may_lack, unsound_of, IsWalkOf, IsReached, IsCalledSound, IsSoundFile, IsSoundFileFor}
+use Rattle.ix_verdict.specs.AllowMissing.{allow_none, may_lack}
+use Rattle.ix_verify.specs.Found.{job_below, verified_job, unsound_of, IsWalkOf, IsReached, IsCalledSound, IsSoundFile, IsSoundFileFor}
 use Rattle.ix_verify.specs.Written.{written_sections, IsArchivable}
 use Rattle.ix_verify.proofs.SoundSections.{All-verified}
 use Rattle.ix_verify.proofs.ArchivesAgain.{archive-roots, archive-found, sections_same, found-sound}

@@ -29,7 +29,8 @@ use Rattle.ix_verify.specs.declared.found.Copies.{Copies}
 use Rattle.ix_verify.specs.declared.found.Copies.TheVariants.{First, Sound}
 use Rattle.ix_verify.specs.declared.found.Outcome.{Outcome}
 use Rattle.ix_verify.specs.declared.found.Outcome.TheVariants.{Sound as SoundFile}
-use Rattle.ix_verify.specs.declared.found.AllowMissing.{AllowMissing}
+use Rattle.ix_verdict.specs.declared.allow_missing.AllowMissing.{AllowMissing}
+use Rattle.ix_verdict.specs.AllowMissing.{allow_none, allows_cid, may_lack}
 use Rattle.ix_verify.specs.declared.found.Unsound.{Unsound}
 use Rattle.ix_verify.specs.declared.found.Findings.{Findings}
 
@@ -56,14 +57,6 @@ roots_job roots = verified_job everything (few_roots roots)
 -- the report on a visit whose verdict isn't good
 abbrev pub skip_of : Delivery → Skip
 skip_of d = record { seq = d.visit.seq; cid = d.visit.cid; verdict = d.verdict }
-
--- whether links of these codecs may lead to blocks that aren't there, by the codec of a CID
-abbrev pub may_lack_by : AllowMissing → List ℕ → Bool
-may_lack_by allowed c = (allowed.raw && (codec_of c == 0x55)) || (allowed.dag_cbor && (codec_of c == 0x71))
-
--- the block of a CID may be lacking: its codec allows for that, and it is none of these roots
-abbrev pub may_lack : AllowMissing → List (List ℕ) → List ℕ → Bool
-may_lack allowed roots c = may_lack_by allowed c && not (list_any (λ root. bytes_eq root c) roots)
 
 -- a visit leads to a block that isn't there, and that may be lacking by this test of CIDs
 abbrev pub is_absent : (List ℕ → Bool) → Delivery → Bool
@@ -130,10 +123,6 @@ pub record IsFoundFor (allowed : AllowMissing) (store : Blocks) (job : JobMeanin
   pub unsound : IsNoted section_finding most (unsound_of sections) f.unsound
   pub reached : IsWalkOf (may_lack allowed (first_ones job.roots)) store job most f.skips f.absent f.is_over_limit
   pub later : f.later_count ≡ 0
-
--- no link may lead to a block that isn't there
-abbrev pub allow_none : AllowMissing
-allow_none = record { raw = false; dag_cbor = false }
 
 -- what is found of a file beside no other, where the first copy of a block counts, and each link to a missing block
 abbrev pub IsFoundOf : List ℕ → Scope → ℕ → Findings → Type 0

@@ -1,5 +1,6 @@
 -- What the walk from roots comes to.
 use Rattle.std.specs.Prelude.{ℕ, Bool, not, ◌&&◌, ◌||◌, List, [], ◌∷◌, map, if◌then◌else◌}
+use Rattle.ix_verdict.specs.AllowMissing.{allows_cid}
 use Rattle.ix_walk.specs.declared.visit.Visit.{Visit}
 use Rattle.ix_walk.specs.JobMeaning.{JobMeaning}
 use Rattle.ix_walk.specs.Once.{first_ones}
@@ -7,8 +8,8 @@ use Rattle.ix_store.specs.Store.{Blocks, has_cid}
 use Rattle.ix_check.specs.Verdict.{verdict_of, passes}
 use Rattle.ix_car.specs.Verified.{judged}
 use Rattle.ix_car.specs.declared.archive.Skip.{Skip}
-use Rattle.ix_verify.specs.Found.{skip_of, may_lack_by, is_absent, IsWalkOf, IsReached}
-use Rattle.ix_verify.specs.declared.found.AllowMissing.{AllowMissing}
+use Rattle.ix_verify.specs.Found.{skip_of, is_absent, IsWalkOf, IsReached}
+use Rattle.ix_verdict.specs.declared.allow_missing.AllowMissing.{AllowMissing}
 use Rattle.ix_verify.specs.declared.reach.Watch.{Watch}
 use Rattle.ix_verify.specs.declared.reach.Reached.{Reached}
 
@@ -23,7 +24,7 @@ absent_at lack store visit = if is_absent lack (judged store visit) then 1 else 
 
 -- what may be lacking on a walk: what the codecs allow, except for the CIDs of a set
 abbrev pub lack_of : Watch → List ℕ → Bool
-lack_of w c = may_lack_by w.allowed c && not (has_cid w.roots.now c)
+lack_of w c = allows_cid w.allowed c && not (has_cid w.roots.now c)
 
 -- what is met on the walk of a job
 abbrev pub IsReachedBy : (List ℕ → Bool) → Blocks → JobMeaning → ℕ → Reached → Type 0

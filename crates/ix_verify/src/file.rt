@@ -13,7 +13,7 @@ ghost use Rattle.ix_verify.specs.Found.{unsound_of, IsFoundBeside, IsFoundFor, I
 ghost use Rattle.ix_verify.specs.Counted.{told_if, told_among, findings_of, IsJudgedOf, IsBatchAt, IsBatchFault};
 
 use crate::car_bytes::CarBytes;
-use crate::found::{AllowMissing, Findings, Scope, Unsound};
+use crate::found::{Findings, Scope, Unsound};
 use crate::noted::Noted;
 use crate::observer::{Observer, Unobserved};
 use crate::other_file::{Beside, load_beside};
@@ -23,6 +23,7 @@ use ix_check::Verdict;
 use ix_cid::Cid;
 use ix_sections::{CarFault, CarKind, Section, read_header, read_section};
 use ix_store::Store;
+use ix_verdict::AllowMissing;
 use ix_walk::Job;
 use std::alloc::{AllocError, Global};
 use std::num::NonZeroUsize;

@@ -2,13 +2,12 @@
 
 ghost use Rattle.std.specs.Prelude.{◌≡◌};
 ghost use Rattle.ix_verify.specs.Outcome.{outcome_on, worse, outcome_at_limit};
-ghost use Rattle.ix_verify.specs.Found.{allow_none, may_lack_by, is_sound_file, outcome_of};
+ghost use Rattle.ix_verify.specs.Found.{is_sound_file, outcome_of};
 
 use crate::noted::Noted;
 use ix_car::Skip;
 use ix_check::Verdict;
 use ix_cid::Cid;
-use ix_cid::code::{DAG_CBOR, RAW};
 use std::fmt;
 
 /// How far a file is verified.
@@ -28,33 +27,6 @@ pub enum Copies {
     First,
     /// The first that is sound, or the first if none is.
     Sound,
-}
-
-/// Which links may lead to blocks that aren't there, by the codec of their CIDs.
-#[derive(Debug, Drop, Clone, Copy, PartialEq, Eq)]
-pub struct AllowMissing {
-    pub raw: bool,
-    pub dag_cbor: bool,
-}
-
-impl AllowMissing {
-    /// No link.
-    pub fn none() -> AllowMissing
-        ensures { result ≡ allow_none }
-    {
-        AllowMissing {
-            raw: false,
-            dag_cbor: false,
-        }
-    }
-
-    // Returns whether a link to this CID may.
-    pub(crate) fn allows(self, cid: &Cid) -> bool
-        ensures { result ≡ may_lack_by self cid.now }
-    {
-        let codec = cid.parts().codec;
-        (self.raw && codec == RAW) || (self.dag_cbor && codec == DAG_CBOR)
-    }
 }
 
 /// What a file is found to be, from the best to the worst.

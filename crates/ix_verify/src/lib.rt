@@ -55,7 +55,7 @@ mod tally;
 
 pub use car_bytes::CarBytes;
 pub use file::{JobWalk, verify, verify_beside, verify_job, verify_sections};
-pub use found::{AllowMissing, Copies, Findings, Outcome, Scope, Unsound};
+pub use found::{Copies, Findings, Outcome, Scope, Unsound};
 pub use kind::{Kind, kind_of};
 pub use names::{codec_name, hash_name};
 pub use noted::Noted;

@@ -7,12 +7,14 @@ ghost use Rattle.ix_sections.specs.Gives.{Gives};
 ghost use Rattle.ix_sections.specs.Sections.{section_list, with_sections};
 ghost use Rattle.ix_verify.specs.declared.found.Copies.TheVariants.{First, Sound};
 ghost use Rattle.ix_verify.specs.Beside.{sections_read, blocks_beside, with_copies_in};
-ghost use Rattle.ix_verify.specs.Found.{allow_none, with_files};
+ghost use Rattle.ix_verdict.specs.AllowMissing.{allow_none};
+ghost use Rattle.ix_verify.specs.Found.{with_files};
 
 use crate::car_bytes::CarBytes;
-use crate::found::{AllowMissing, Copies};
+use crate::found::Copies;
 use ix_sections::{BlockLoader, CarFault, CarKind, SoundLoader, read_sections};
 use ix_store::{SoundStore, Store};
+use ix_verdict::AllowMissing;
 use std::alloc::{AllocError, Global};
 use std::marker::Model;
 use std::thread::Threads;

@@ -1,23 +1,23 @@
 //! Walks everything below the roots of a file.
 
 ghost use Rattle.std.specs.Prelude.{◌≡◌, ◌+◌, ◌≤◌, ◌&&◌, IfOk, OnOk};
+ghost use Rattle.ix_verdict.specs.AllowMissing.{may_lack};
 ghost use Rattle.ix_walk.specs.Once.{first_ones};
 ghost use Rattle.ix_check.specs.Visits.{IsVisitOf};
 ghost use Rattle.ix_check.specs.Verdict.{verdict_of};
 ghost use Rattle.ix_verify.specs.Outcome.{link_finding};
 ghost use Rattle.ix_verdict.specs.Verdict.{is_missing};
-ghost use Rattle.ix_verify.specs.Found.{may_lack};
 ghost use Rattle.ix_verify.specs.Noting.{NotesMore};
 ghost use Rattle.ix_verify.specs.Walked.{skip_at, absent_at, lack_of, roots_as_blocks, IsReachedBy, IsReachedFrom, IsReachedFromNone};
 
 use crate::everything::roots_job;
-use crate::found::AllowMissing;
 use crate::noted::Noted;
 use crate::observer::Observer;
 use ix_car::Skip;
 use ix_check::{Check, PlainCheck, Verdict};
 use ix_cid::Cid;
 use ix_store::Store;
+use ix_verdict::AllowMissing;
 use ix_walk::{Job, Visit, Walk, WalkStop};
 use std::alloc::{AllocError, Global};
 
@@ -57,7 +57,7 @@ impl Watch<'_> {
     fn may_lack(&self, cid: &Cid) -> bool
         ensures { result ≡ lack_of self.now cid.now }
     {
-        self.allowed.allows(cid) && self.roots.find(cid).is_none()
+        self.allowed.allows(cid.codec()) && self.roots.find(cid).is_none()
     }
 
     // Returns whether a visit of a CID with this verdict leads to a block that isn't there and may be lacking.

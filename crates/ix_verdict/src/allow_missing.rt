@@ -1,11 +1,11 @@
 //! Which blocks may be missing.
 
 ghost use Rattle.std.specs.Prelude.{◌≡◌, Ok, Err, IfOk, IfErr};
-ghost use Rattle.ix_jobs.specs.Missing.{names_raw, names_dag_cbor, names_codec, allowed_in, allows};
+ghost use Rattle.ix_verdict.specs.AllowMissing.{names_raw, names_dag_cbor, names_codec, allowed_in, allows, allow_none, allow_all};
 
 use ix_cid::code::{DAG_CBOR, RAW};
 
-/// The codecs of the blocks that may be missing, since they are elsewhere by design.
+/// Which links may lead to blocks that aren't there, by the codec of their CIDs.
 #[derive(Debug, Drop, Clone, Copy, PartialEq, Eq)]
 pub struct AllowMissing {
     pub raw: bool,
@@ -19,6 +19,26 @@ pub struct UnknownCodec<'a> {
 }
 
 impl AllowMissing {
+    /// No link.
+    pub fn none() -> AllowMissing
+        ensures { result ≡ allow_none }
+    {
+        AllowMissing {
+            raw: false,
+            dag_cbor: false,
+        }
+    }
+
+    /// Every link.
+    pub fn all() -> AllowMissing
+        ensures { result ≡ allow_all }
+    {
+        AllowMissing {
+            raw: true,
+            dag_cbor: true,
+        }
+    }
+
     /// Parses words with commas between: `raw`, `dag-cbor`, and `all` for both.
     pub fn parse(text: &str) -> Result<AllowMissing, UnknownCodec<'_>>
         ensures named { IfOk result (λ which. allowed_in text.now ≡ Ok which) }
@@ -33,7 +53,7 @@ impl AllowMissing {
         })
     }
 
-    /// Returns whether a block of this codec may be missing.
+    /// Returns whether a link with this codec may.
     pub fn allows(self, codec: u64) -> bool
         ensures { result ≡ allows self codec }
     {
