@@ -7,14 +7,13 @@ use Rattle.std.proofs.Math.Bool.{or-true}
 use Rattle.std.proofs.lemmas.Option.{slice_get-get_or}
 use Rattle.std.proofs.lemmas.Result.{on_ok_weaker}
 use Rattle.std.proofs.lemmas.Slice.Eq.{bytes_eq-Decides}
-use Rattle.ix_verdict.specs.Verdict.{verdict_with}
+use Rattle.ix_verdict.specs.Verdict.{verdict_with, is_sound}
 use Rattle.ix_store.specs.Store.{Blocks, has_cid, position_of, with_blocks}
 use Rattle.ix_store.specs.Sound.{verdict_of}
 use Rattle.ix_store.specs.declared.places.PlaceSet.{PlaceSet}
 use Rattle.ix_store.specs.PlaceSet.{contains_place, HasOneMoreThan}
 use Rattle.ix_store.proofs.Gathered.{with_blocks-push}
 use Rattle.ix_store.proofs.Stores.{pair-there, same-there}
-use Rattle.ix_car.specs.Archive.{is_sound}
 use Rattle.ix_car.specs.KnownPlaces.{IsPutIf}
 use Rattle.ix_base.specs.declared.finding.Finding.{Finding}
 use Rattle.ix_base.specs.declared.finding.Finding.TheVariants.{Nothing, CopyOf, NoMemory}

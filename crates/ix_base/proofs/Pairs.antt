@@ -6,11 +6,10 @@ use Rattle.ix_cid.specs.Cid.{parts_of, digest_of, hash_function_of}
 use Rattle.ix_cid.specs.declared.hash_function.HashFunction.{HashFunction}
 use Rattle.ix_cid.specs.declared.hash_function.HashFunction.TheVariants.{Identity, Sha2_256, Sha2_512}
 use Rattle.ix_verdict.specs.declared.verdict.Verdict.TheVariants.{Codec, Malformed, Inline}
-use Rattle.ix_verdict.specs.Verdict.{has_codec, is_no_data, verdict_by, verdict_with}
+use Rattle.ix_verdict.specs.Verdict.{has_codec, is_no_data, verdict_by, verdict_with, is_sound}
 use Rattle.ix_store.specs.Store.{Blocks, has_cid, block_of, with_blocks}
 use Rattle.ix_store.proofs.Blocks.{none_behind}
 use Rattle.ix_store.proofs.Stores.{position-none}
-use Rattle.ix_car.specs.Archive.{is_sound}
 use Rattle.ix_car.specs.KnownPlaces.{knows}
 
 -- a CID that isn't that of the last one

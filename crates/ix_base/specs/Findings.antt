@@ -7,7 +7,7 @@ use Rattle.ix_store.specs.PlaceSet.{contains_place}
 use Rattle.ix_sections.specs.declared.reader.sections.Section.{Section}
 use Rattle.ix_sections.specs.SectionView.{section_of}
 use Rattle.ix_sections.specs.Copies.{copy_of}
-use Rattle.ix_car.specs.Archive.{is_sound}
+use Rattle.ix_verdict.specs.Verdict.{is_sound}
 use Rattle.ix_base.specs.declared.finding.Finding.{Finding}
 use Rattle.ix_base.specs.declared.finding.Finding.TheVariants.{Nothing, CopyOf, NoMemory}
 use Rattle.ix_base.specs.declared.places.Places.{Places}

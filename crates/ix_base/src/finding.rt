@@ -3,7 +3,7 @@
 ghost use Rattle.std.specs.Prelude.{◌≡◌, ◌<◌, ℕ, Some, length, map, slice_index_or, IfOk};
 ghost use Rattle.ix_store.specs.Store.{position_of};
 ghost use Rattle.ix_store.specs.Sound.{verdict_of};
-ghost use Rattle.ix_car.specs.Archive.{is_sound};
+ghost use Rattle.ix_verdict.specs.Verdict.{is_sound};
 ghost use Rattle.ix_check.specs.Verdict.{verdict_of as stored_verdict};
 ghost use Rattle.ix_base.specs.Findings.{pair_of, IsFinding, IsFindingAt};
 
@@ -101,9 +101,9 @@ fn is_sound_copy(store: &Store, place: usize, cid: &Cid, block: &[u8]) -> bool
     ensures { result ≡ is_sound (verdict_of (cid.now, block.now)) }
 {
     if store.bytes(place) == block {
-        return is_sound(verdict_at(store, place, cid));
+        return verdict_at(store, place, cid).is_sound();
     }
-    is_sound(verdict_on(cid.as_bytes(), block))
+    verdict_on(cid.as_bytes(), block).is_sound()
 }
 
 // Returns the verdict on a CID, whose block is at this position of a store.
@@ -120,10 +120,4 @@ fn verdict_at(store: &Store, place: usize, cid: &Cid) -> Verdict
             parts.codec == DAG_CBOR && store.is_malformed(place),
         ),
     }
-}
-
-fn is_sound(verdict: Verdict) -> bool
-    ensures { result ≡ is_sound verdict }
-{
-    verdict == Verdict::Sound
 }

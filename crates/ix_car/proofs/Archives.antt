@@ -16,7 +16,8 @@ use Rattle.ix_car.specs.Events.{Calls, delivery, close, deliveries_of}
 use Rattle.ix_car.specs.Kept.{kept}
 use Rattle.ix_car.specs.Verified.{judged_visits, verified}
 use Rattle.ix_sections.specs.Writing.{header_of}
-use Rattle.ix_car.specs.Archive.{Known, is_known, is_sound, first_sound, section_of, new_section, archive_without, difference_of}
+use Rattle.ix_car.specs.Archive.{Known, is_known, first_sound, section_of, new_section, archive_without, difference_of}
+use Rattle.ix_verdict.specs.Verdict.{is_sound}
 use Rattle.ix_car.specs.ArchiveMeaning.{ArchiveMeaning, events_of, calls_of, HasWrittenWithout, HasArchived}
 use Rattle.ix_car.specs.Archived.{IsBeginning, TellsBeginning, IsArchived}
 use Rattle.ix_car.specs.Faithful.{EndFits, IsFaithful}

@@ -17,7 +17,8 @@ use Rattle.ix_car.specs.declared.archive.Skip.{Skip}
 use Rattle.ix_car.specs.declared.sink.Delivery.{Delivery}
 use Rattle.ix_car.specs.Kept.{is_below, kept}
 use Rattle.ix_sections.specs.Writing.{header_of, section_with, with_length}
-use Rattle.ix_car.specs.Archive.{is_sound, first_sound, section_of, new_section, Known, is_known, is_known_place, known_at, sections_of, archive_without}
+use Rattle.ix_car.specs.Archive.{first_sound, section_of, new_section, Known, is_known, is_known_place, known_at, sections_of, archive_without}
+use Rattle.ix_verdict.specs.Verdict.{is_sound}
 use Rattle.ix_car.specs.Archiving.{cut_behind, is_told, unwritten_block, text_after, text_due}
 use Rattle.ix_car.proofs.Pruning.{kept-append, cut_after-append}
 

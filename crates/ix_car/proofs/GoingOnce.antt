@@ -27,7 +27,8 @@ use Rattle.ix_car.specs.Kept.{is_below, cut_at, kept_after}
 use Rattle.ix_car.specs.Verified.{is_good, verified_arrivals, number_among, judged, verified}
 use Rattle.ix_sections.specs.Writing.{section_with, header_of}
 use Rattle.ix_car.specs.KnownPlaces.{knows}
-use Rattle.ix_car.specs.Archive.{is_sound, first_sound, sections_of, archive_with, archive_of}
+use Rattle.ix_car.specs.Archive.{first_sound, sections_of, archive_with, archive_of}
+use Rattle.ix_verdict.specs.Verdict.{is_sound}
 use Rattle.ix_car.specs.Archived.{IsBeginning}
 use Rattle.ix_car.proofs.Archives.{archive-beginning}
 use Rattle.ix_car.proofs.Pruning.{pruning}

@@ -27,7 +27,8 @@ use Rattle.ix_sections.specs.Writing.{section_with, header_of}
 use Rattle.ix_car.specs.declared.sink.Delivery.{Delivery}
 use Rattle.ix_car.specs.Kept.{kept_after, kept_of, kept}
 use Rattle.ix_car.specs.Verified.{is_good, judged, judged_visits, all_judged, verified}
-use Rattle.ix_car.specs.Archive.{Known, is_sound, first_sound, new_section, sections_of, new_sections, archive_with, difference_of}
+use Rattle.ix_car.specs.Archive.{Known, first_sound, new_section, sections_of, new_sections, archive_with, difference_of}
+use Rattle.ix_verdict.specs.Verdict.{is_sound}
 use Rattle.ix_car.specs.KnownPlaces.{knows, known_by}
 use Rattle.ix_car.specs.Report.{skips_of}
 use Rattle.ix_car.specs.Restoring.{pair_with, difference_pairs, AgreesWith, IsWithoutSkips, IsRestoredBy}

@@ -14,7 +14,8 @@ use Rattle.ix_car.specs.declared.archive.Skip.{Skip}
 use Rattle.ix_car.specs.declared.sink.Delivery.{Delivery}
 use Rattle.ix_car.specs.declared.sink.End.{End}
 use Rattle.ix_car.specs.Kept.{is_below, kept}
-use Rattle.ix_car.specs.Archive.{Known, is_known, is_sound, sections_of, new_sections}
+use Rattle.ix_car.specs.Archive.{Known, is_known, sections_of, new_sections}
+use Rattle.ix_verdict.specs.Verdict.{is_sound}
 use Rattle.ix_car.specs.declared.archive.Counts.{Counts}
 use Rattle.ix_car.specs.Report.{at_most, known_count, counts_of}
 use Rattle.ix_car.specs.Archiving.{IsTally, cut_behind, is_told, unwritten_block}

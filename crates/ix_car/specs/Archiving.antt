@@ -13,7 +13,8 @@ use Rattle.ix_car.specs.declared.fault.SinkFault.TheVariants.{Write, Memory}
 use Rattle.ix_car.specs.declared.archive.Skip.{Skip}
 use Rattle.ix_car.specs.declared.archive.Counts.{Counts}
 use Rattle.ix_car.specs.Kept.{is_below, cut_after, kept}
-use Rattle.ix_car.specs.Archive.{Known, is_sound, new_section}
+use Rattle.ix_car.specs.Archive.{Known, new_section}
+use Rattle.ix_verdict.specs.Verdict.{is_sound}
 use Rattle.ix_car.specs.ArchiveMeaning.{ArchiveMeaning, known_in, IsProperPrefix}
 use Rattle.ix_car.specs.Report.{skips_of, at_most, counts_of}
 

@@ -4,7 +4,8 @@ use Rattle.ix_store.specs.Store.{Blocks, position_of}
 use Rattle.ix_store.specs.declared.places.PlaceSet.{PlaceSet}
 use Rattle.ix_store.specs.PlaceSet.{contains_place, HasOneMoreThan}
 use Rattle.ix_check.specs.Verdict.{verdict_of}
-use Rattle.ix_car.specs.Archive.{Known, is_sound}
+use Rattle.ix_car.specs.Archive.{Known}
+use Rattle.ix_verdict.specs.Verdict.{is_sound}
 
 -- a base has a sound block under a CID
 abbrev pub knows : Blocks → List ℕ → Bool

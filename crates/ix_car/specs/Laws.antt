@@ -19,7 +19,8 @@ use Rattle.ix_car.specs.Kept.{kept, without_deeper_than}
 use Rattle.ix_sections.specs.Writing.{header_of, section_with}
 use Rattle.ix_car.specs.Verified.{only_passing, is_good, judged, verified, judged_visits}
 use Rattle.ix_car.specs.Faithful.{IsFaithful}
-use Rattle.ix_car.specs.Archive.{Known, is_known, known_at, is_sound, first_sound, section_of, sections_of, archive_without, archive_with, difference_of, archive_of}
+use Rattle.ix_car.specs.Archive.{Known, is_known, known_at, first_sound, section_of, sections_of, archive_without, archive_with, difference_of, archive_of}
+use Rattle.ix_verdict.specs.Verdict.{is_sound}
 use Rattle.ix_car.specs.KnownPlaces.{known_by, IsKnownIn}
 use Rattle.ix_car.specs.Report.{counts_of}
 use Rattle.ix_car.specs.Restoring.{difference_pairs, AgreesWith, IsWithoutSkips, IsRestoredBy}

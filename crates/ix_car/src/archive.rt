@@ -3,7 +3,8 @@
 
 ghost use Rattle.std.specs.Prelude.{◌≡◌, ◌+◌, true, false, None, Some, [], IfOk, IfErr, option_map};
 ghost use Rattle.ix_check.specs.Verdict.{passes};
-ghost use Rattle.ix_car.specs.Archive.{is_sound, is_known, is_known_place, known_at};
+ghost use Rattle.ix_car.specs.Archive.{is_known, is_known_place, known_at};
+ghost use Rattle.ix_verdict.specs.Verdict.{is_sound};
 ghost use Rattle.ix_car.specs.ArchiveMeaning.{HasArchived, IsBegun, borrowed, known_in};
 ghost use Rattle.ix_car.specs.Archiving.{is_cut_off, section_due, counts_in, IsAdded, IsDelivered, IsDeliveredDue, KeepsAt};
 ghost use Rattle.ix_car.specs.Report.{at_most, skips_of};
@@ -219,7 +220,7 @@ impl<'a, W: Write> Archive<'a, W> {
         requires unclosed { self.now.closed ≡ [] }
         ensures { result ≡ section_due self.now delivery.now }
     {
-        if !is_sound(delivery.verdict) {
+        if !delivery.verdict.is_sound() {
             return None;
         }
         let visit = &delivery.visit;
@@ -390,15 +391,5 @@ fn counted_more(count: Option<u32>) -> Option<u32>
     match count {
         Some(count) => Some(saturating_inc(count)),
         None => None,
-    }
-}
-
-// Whether a block with this verdict has a section.
-pub(crate) fn is_sound(verdict: Verdict) -> bool
-    ensures { result ≡ is_sound verdict }
-{
-    match verdict {
-        Verdict::Sound => true,
-        _ => false,
     }
 }

@@ -4,7 +4,6 @@ ghost use Rattle.std.specs.Prelude.{◌≡◌, IfOk, OnOk};
 ghost use Rattle.ix_store.specs.Store.{IsPlaceIn};
 ghost use Rattle.ix_car.specs.KnownPlaces.{IsKnownIn, IsPutIf, IsAnswerOf, knows};
 
-use crate::archive::is_sound;
 use ix_check::verdict_in;
 use ix_cid::Cid;
 use ix_store::{PlaceSet, Store};
@@ -53,5 +52,5 @@ fn answer_at(store: &Store, base: &Store, place: usize) -> Option<bool>
 pub fn knows(base: &Store, cid: &Cid) -> bool
     ensures { result ≡ knows base.now cid.now }
 {
-    is_sound(verdict_in(base, cid))
+    verdict_in(base, cid).is_sound()
 }

@@ -23,7 +23,8 @@ use Rattle.ix_verdict.specs.declared.verdict.Verdict.TheVariants.{Codec, Damaged
 use Rattle.ix_check.specs.Verdict.{verdict_by, has_codec, verdict_with}
 use Rattle.ix_car.specs.Verified.{all_judged}
 use Rattle.ix_car.specs.Restoring.{pair_with, difference_pairs}
-use Rattle.ix_car.specs.Archive.{Known, is_sound, first_sound, sections_of, new_sections}
+use Rattle.ix_car.specs.Archive.{Known, first_sound, sections_of, new_sections}
+use Rattle.ix_verdict.specs.Verdict.{is_sound}
 use Rattle.ix_car.specs.KnownPlaces.{knows}
 use Rattle.ix_car.specs.Laws.{once}
 use Rattle.ix_car.proofs.SoundValues.{value_by}

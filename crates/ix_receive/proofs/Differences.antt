@@ -14,7 +14,8 @@ use Rattle.ix_walk.proofs.Firsts.{In}
 use Rattle.ix_walk.proofs.Links.{cid_of}
 use Rattle.ix_walk.proofs.Reaches.{contains-in}
 use Rattle.ix_check.specs.Verdict.{verdict_with}
-use Rattle.ix_car.specs.Archive.{is_sound, difference_of}
+use Rattle.ix_car.specs.Archive.{difference_of}
+use Rattle.ix_verdict.specs.Verdict.{is_sound}
 use Rattle.ix_car.specs.KnownPlaces.{knows, known_by}
 use Rattle.ix_car.specs.Laws.{once}
 use Rattle.ix_car.proofs.Restored.{pairs-bytes}

@@ -21,7 +21,7 @@ use Rattle.ix_selector.specs.Residual.{Place}
 use Rattle.ix_selector.specs.Behind.{same_residual, residual_order}
 use Rattle.ix_selector.specs.Compared.{residual_ties}
 use Rattle.ix_verdict.specs.declared.verdict.Verdict.TheVariants.{Codec, Damaged, Malformed, Sound}
-use Rattle.ix_verdict.specs.Verdict.{has_codec, verdict_by, verdict_with, is_no_data}
+use Rattle.ix_verdict.specs.Verdict.{has_codec, verdict_by, verdict_with, is_no_data, is_sound}
 use Rattle.ix_store.specs.Store.{Blocks, block_of, bytes_by, is_dag_cbor, value_of}
 use Rattle.ix_walk.specs.declared.subtree.PendingLink.{PendingLink}
 use Rattle.ix_walk.specs.VisitedSet.{cid_order}
@@ -30,7 +30,6 @@ use Rattle.ix_walk.specs.Once.{is_sound_by, sound_value}
 use Rattle.ix_walk.specs.Walking.{waiting, Going, nothing_expanded, expanded_also, data_inside, expanded_after, links_inside}
 use Rattle.ix_walk.specs.Expansion.{AreLinksIn}
 use Rattle.ix_receive.specs.Waiting.{IsPutBefore}
-use Rattle.ix_car.specs.Archive.{is_sound}
 use Rattle.ix_receive.specs.Traversal.{AreSound, expanded_by, Expands}
 
 -- ---- sound sections

@@ -19,7 +19,7 @@ use Rattle.ix_walk.proofs.Firsts.{In, filter-both, in-filter}
 use Rattle.ix_walk.proofs.Links.{cid_of, all-append, all-right}
 use Rattle.ix_walk.proofs.Reaches.{contains-in, in-contains}
 use Rattle.ix_check.specs.Verdict.{verdict_with}
-use Rattle.ix_car.specs.Archive.{is_sound}
+use Rattle.ix_verdict.specs.Verdict.{is_sound}
 use Rattle.ix_car.specs.KnownPlaces.{knows}
 use Rattle.ix_car.specs.Restoring.{pair_with}
 use Rattle.ix_car.specs.Laws.{once}

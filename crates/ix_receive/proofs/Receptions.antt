@@ -15,8 +15,7 @@ use Rattle.ix_cid.specs.declared.hash_function.HashFunction.{HashFunction}
 use Rattle.ix_cid.specs.declared.hash_function.HashFunction.TheVariants.{Identity, Sha2_256, Sha2_512}
 use Rattle.ix_verdict.specs.declared.verdict.Verdict.{Verdict}
 use Rattle.ix_verdict.specs.declared.verdict.Verdict.TheVariants.{Codec, Hash, Missing, Damaged, Malformed, Sound, Inline}
-use Rattle.ix_verdict.specs.Verdict.{has_codec, verdict_by, verdict_with, is_missing, is_no_data}
-use Rattle.ix_verdict.specs.Verdict.{passes as verdict_passes}
+use Rattle.ix_verdict.specs.Verdict.{has_codec, verdict_by, verdict_with, is_missing, is_no_data, passes as verdict_passes, is_sound}
 use Rattle.ix_store.specs.Store.{Blocks, has_cid}
 use Rattle.ix_check.specs.Verdict.{verdict_of}
 use Rattle.ix_walk.specs.declared.subtree.PendingLink.{PendingLink}
@@ -30,7 +29,6 @@ use Rattle.ix_walk.proofs.Links.{cid_of, all-append}
 use Rattle.ix_walk.proofs.Reaches.{contains-in, in-contains}
 use Rattle.ix_walk.proofs.Starts.{IsFollowed}
 use Rattle.ix_receive.specs.Waiting.{all_waiting, IsNextLink}
-use Rattle.ix_car.specs.Archive.{is_sound}
 use Rattle.ix_car.specs.Laws.{once}
 use Rattle.ix_verdict.specs.declared.allow_missing.AllowMissing.{AllowMissing}
 use Rattle.ix_receive.specs.declared.counts.Counts.{Counts}

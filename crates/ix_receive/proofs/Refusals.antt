@@ -8,7 +8,7 @@ use Rattle.ix_walk.specs.JobMeaning.{JobMeaning}
 use Rattle.ix_walk.specs.Once.{cids_of}
 use Rattle.ix_walk.proofs.Links.{cid_of}
 use Rattle.ix_walk.proofs.Reaches.{contains-in}
-use Rattle.ix_car.specs.Archive.{is_sound}
+use Rattle.ix_verdict.specs.Verdict.{is_sound}
 use Rattle.ix_verdict.specs.declared.allow_missing.AllowMissing.{AllowMissing}
 use Rattle.ix_receive.specs.declared.fault.ReceiveFault.{ReceiveFault}
 use Rattle.ix_receive.specs.declared.fault.ReceiveFault.TheVariants.{Unsound, InBase, Repeated, OutOfOrder, NotAskedFor, Missing, Root, Limit, Ended, Memory}

@@ -7,12 +7,11 @@ use Rattle.ix_cid.specs.declared.hash_function.HashFunction.{HashFunction}
 use Rattle.ix_cid.specs.declared.hash_function.HashFunction.TheVariants.{Identity, Sha2_256, Sha2_512}
 use Rattle.ix_verdict.specs.declared.verdict.Verdict.{Verdict}
 use Rattle.ix_verdict.specs.declared.verdict.Verdict.TheVariants.{Codec, Hash, Missing, Damaged, Malformed, Sound, Inline}
-use Rattle.ix_verdict.specs.Verdict.{has_codec, verdict_by, verdict_with, passes}
+use Rattle.ix_verdict.specs.Verdict.{has_codec, verdict_by, verdict_with, passes, is_sound}
 use Rattle.ix_verdict.specs.declared.needed.Needed.TheVariants.{Nothing, Block}
 use Rattle.ix_verdict.specs.Needed.{needed_by, needed_of}
 use Rattle.ix_store.specs.Store.{Blocks, has_cid, block_of}
 use Rattle.ix_check.specs.Verdict.{verdict_of}
-use Rattle.ix_car.specs.Archive.{is_sound}
 use Rattle.ix_receive.specs.Traversal.{AreSound}
 use Rattle.ix_receive.specs.Roots.{RootsPass}
 use Rattle.ix_receive.proofs.Lookup.{no-block}

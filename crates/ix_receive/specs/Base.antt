@@ -2,12 +2,12 @@
 use Rattle.std.specs.Prelude.{◌≡◌, ℕ, true, false, List, [], ◌++◌, map, Option, None, Some}
 use Rattle.std.specs.List.{AllByRecursion, Contains}
 use Rattle.std.specs.Borrow.{Bor}
-use Rattle.ix_verdict.specs.Verdict.{verdict_with}
+use Rattle.ix_verdict.specs.Verdict.{verdict_with, is_sound}
 use Rattle.ix_store.specs.Store.{Blocks, block_of}
 use Rattle.ix_walk.specs.JobMeaning.{JobMeaning}
 use Rattle.ix_walk.specs.Once.{cids_of}
 use Rattle.ix_walk.specs.Visits.{arrivals_of, is_over_limit}
-use Rattle.ix_car.specs.Archive.{is_sound, is_known, difference_of}
+use Rattle.ix_car.specs.Archive.{is_known, difference_of}
 use Rattle.ix_car.specs.KnownPlaces.{knows, known_by}
 use Rattle.ix_car.specs.Laws.{once}
 use Rattle.ix_receive.specs.Own.{base_known, IsItsOwnWith}

@@ -2,12 +2,12 @@
 use Rattle.std.specs.Prelude.{◌≡◌, ℕ, true, false, List, [], ◌∷◌, ◌++◌, None, Some, flat_map}
 use Rattle.std.specs.List.{AllByRecursion}
 use Rattle.ix_selector.specs.Pattern.{IsSelector}
-use Rattle.ix_verdict.specs.Verdict.{verdict_with}
+use Rattle.ix_verdict.specs.Verdict.{verdict_with, is_sound}
 use Rattle.ix_store.specs.Store.{Blocks, has_cid}
 use Rattle.ix_walk.specs.JobMeaning.{JobMeaning}
 use Rattle.ix_walk.specs.Visits.{is_over_limit}
 use Rattle.ix_sections.specs.Writing.{header_of, section_with}
-use Rattle.ix_car.specs.Archive.{Known, is_sound, archive_of}
+use Rattle.ix_car.specs.Archive.{Known, archive_of}
 use Rattle.ix_car.specs.Restoring.{difference_pairs}
 use Rattle.ix_car.specs.Laws.{once}
 

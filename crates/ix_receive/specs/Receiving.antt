@@ -3,13 +3,13 @@ use Rattle.std.specs.Prelude.{◌≡◌, ℕ, suc, ◌≤◌, true, false, not, 
 use Rattle.std.specs.List.{AllByRecursion, Contains}
 use Rattle.ix_selector.specs.IsEntered.{is_entered}
 use Rattle.ix_selector.specs.Behind.{residual_at, same_residual}
-use Rattle.ix_verdict.specs.Verdict.{verdict_with}
+use Rattle.ix_verdict.specs.Verdict.{verdict_with, is_sound}
 use Rattle.ix_store.specs.Store.{Blocks, has_cid, block_of}
 use Rattle.ix_walk.specs.JobMeaning.{JobMeaning}
 use Rattle.ix_walk.specs.Arrivals.{Arrival}
 use Rattle.ix_walk.specs.Visits.{is_over_limit}
 use Rattle.ix_walk.specs.Once.{cids_of, first_ones, once_from, sound_value}
-use Rattle.ix_car.specs.Archive.{Known, is_sound}
+use Rattle.ix_car.specs.Archive.{Known}
 use Rattle.ix_car.specs.KnownPlaces.{knows}
 use Rattle.ix_car.specs.Restoring.{pair_with}
 use Rattle.ix_car.specs.Laws.{once}

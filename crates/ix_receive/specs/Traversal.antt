@@ -4,7 +4,7 @@ use Rattle.std.specs.List.{AllByRecursion, Contains}
 use Rattle.std.specs.BTreeSet.{BTreeSet, contains}
 use Rattle.ix_selector.specs.Pattern.{Pattern}
 use Rattle.ix_selector.specs.Residual.{Place}
-use Rattle.ix_verdict.specs.Verdict.{verdict_with}
+use Rattle.ix_verdict.specs.Verdict.{verdict_with, is_sound}
 use Rattle.ix_store.specs.Store.{Blocks}
 use Rattle.ix_walk.specs.declared.subtree.PendingLink.{PendingLink}
 use Rattle.ix_walk.specs.JobMeaning.{JobMeaning}
@@ -12,7 +12,6 @@ use Rattle.ix_walk.specs.VisitedSet.{cid_order}
 use Rattle.ix_walk.specs.Walking.{waiting, Going, data_inside, expanded_after, links_inside, first_arrivals, NoDeeper}
 use Rattle.ix_walk.specs.Once.{cids_of, sound_value}
 use Rattle.ix_receive.specs.Waiting.{IsPutBefore, all_waiting}
-use Rattle.ix_car.specs.Archive.{is_sound}
 use Rattle.ix_receive.specs.declared.traversal.WaitingLink.{WaitingLink}
 use Rattle.ix_receive.specs.declared.traversal.Traversal.{Traversal}
 use Rattle.ix_receive.specs.Receiving.{first_visits}

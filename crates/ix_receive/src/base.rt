@@ -5,7 +5,6 @@ ghost use Rattle.ix_store.specs.Store.{Blocks, has_cid, value_of};
 ghost use Rattle.ix_receive.specs.Base.{known_blocks};
 ghost use Rattle.ix_receive.specs.Traversal.{AreSound};
 
-use crate::section::is_sound;
 use ix_check::verdict_in;
 use ix_cid::Cid;
 use ix_store::Store;
@@ -56,7 +55,7 @@ impl<'s> Base<'s> {
     {
         match self.store {
             Some(store) => {
-                if is_sound(verdict_in(store, cid)) {
+                if verdict_in(store, cid).is_sound() {
                     Some(store)
                 } else {
                     None

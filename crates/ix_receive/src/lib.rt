@@ -31,7 +31,6 @@ pub mod law;
 mod passing;
 mod receiver;
 mod request;
-mod section;
 mod sections;
 mod traversal;
 

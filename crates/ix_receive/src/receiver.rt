@@ -12,7 +12,6 @@ use crate::counts::Counts;
 use crate::fault::ReceiveFault;
 use crate::passing::{advance_to, pass_all};
 use crate::request::Request;
-use crate::section::is_sound;
 use crate::sections::Sections;
 use crate::traversal::{Skips, Traversal, expand_link};
 use ix_cid::Cid;
@@ -88,7 +87,7 @@ fn receive<'s>(
     ensures rightly { IfErr result (IsRightlyRefused (reception_with sections.old.0
         asked.now.job.now asked.now.allowed sections.old.1 t.old.visits false) (cid, block.now)) }
 {
-    if !is_sound(verdict) {
+    if !verdict.is_sound() {
         return Err(ReceiveFault::Unsound(verdict));
     }
     if sections.is_in_base(&cid) {

@@ -57,6 +57,16 @@ passes Malformed = false
 passes Sound = true
 passes Inline = true
 
+-- whether there is a block, and its bytes are what its CID says
+abbrev pub is_sound : Verdict → Bool
+is_sound Codec = false
+is_sound Hash = false
+is_sound Missing = false
+is_sound Damaged = false
+is_sound Malformed = false
+is_sound Sound = true
+is_sound Inline = false
+
 -- whether the block isn't there
 abbrev pub is_missing : Verdict → Bool
 is_missing Codec = false

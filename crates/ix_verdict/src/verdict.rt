@@ -2,7 +2,7 @@
 
 ghost use Rattle.std.specs.Prelude.{◌≡◌, if◌then◌else◌};
 ghost use Rattle.ix_verdict.specs.declared.verdict.Verdict.TheVariants.{Damaged, Malformed, Sound, Inline};
-ghost use Rattle.ix_verdict.specs.Verdict.{passes};
+ghost use Rattle.ix_verdict.specs.Verdict.{passes, is_sound};
 
 use std::fmt;
 
@@ -67,6 +67,22 @@ impl Verdict {
             | Verdict::Missing
             | Verdict::Damaged
             | Verdict::Malformed => false,
+        }
+    }
+
+    /// Whether there is a block, and its bytes are what its CID says: Sound alone.
+    #[inline]
+    pub fn is_sound(self) -> bool
+        ensures { result ≡ is_sound self }
+    {
+        match self {
+            Verdict::Sound => true,
+            Verdict::Codec
+            | Verdict::Hash
+            | Verdict::Missing
+            | Verdict::Damaged
+            | Verdict::Malformed
+            | Verdict::Inline => false,
         }
     }
 }

@@ -6,7 +6,8 @@ use Rattle.ix_store.specs.Store.{Blocks, block_of}
 use Rattle.ix_verdict.specs.declared.verdict.Verdict.{Verdict}
 use Rattle.ix_car.specs.declared.sink.Delivery.{Delivery}
 use Rattle.ix_sections.specs.Writing.{header_of}
-use Rattle.ix_car.specs.Archive.{is_sound, first_sound, section_of, archive_with}
+use Rattle.ix_car.specs.Archive.{first_sound, section_of, archive_with}
+use Rattle.ix_verdict.specs.Verdict.{is_sound}
 use Rattle.ix_sections.specs.Reading.{Fault}
 use Rattle.ix_sections.specs.Sections.{SectionMeaning, placed, section_list, roots_of}
 use Rattle.ix_verify.specs.declared.found.Outcome.{Outcome}

@@ -12,7 +12,7 @@ use Rattle.ix_sections.specs.Reading.{Fault, ◌>>=◌, section_at, header_at}
 use Rattle.ix_sections.specs.SectionView.{section_of, views_of}
 use Rattle.ix_sections.specs.Sections.{SectionMeaning, placed, sections_after, sections_in, section_list}
 use Rattle.ix_sections.proofs.SectionLists.{sections_after-enough, ListGoesOn, ListGoesOn-first, ListGoesOn-more, ListGoesOn-fails, ListGoesOn-last, FailsAs-of}
-use Rattle.ix_car.specs.Archive.{is_sound}
+use Rattle.ix_verdict.specs.Verdict.{is_sound}
 use Rattle.ix_verify.specs.declared.noted.Noted.{Noted}
 use Rattle.ix_verify.specs.declared.found.Unsound.{Unsound}
 use Rattle.ix_verify.specs.Outcome.{section_finding}

@@ -13,7 +13,8 @@ use Rattle.ix_sections.specs.Reading.{Fault, ◌>>=◌, blocks_after}
 use Rattle.ix_sections.specs.Sections.{SectionMeaning, section_list, roots_of, with_sections, with_first_of_each}
 use Rattle.ix_sections.proofs.SectionLists.{blocks-after_sections}
 use Rattle.ix_car.specs.declared.sink.End.TheVariants.{Done}
-use Rattle.ix_car.specs.Archive.{Known, known_at, is_sound, new_sections, difference_of}
+use Rattle.ix_car.specs.Archive.{Known, known_at, new_sections, difference_of}
+use Rattle.ix_verdict.specs.Verdict.{is_sound}
 use Rattle.ix_car.specs.ArchiveMeaning.{ArchiveMeaning, HasArchived, calls_of}
 use Rattle.ix_car.specs.Faithful.{IsFaithful}
 use Rattle.ix_car.specs.KnownPlaces.{knows, known_by, IsKnownIn}

@@ -11,12 +11,12 @@ use Rattle.ix_store.specs.Store.{Blocks, block_of}
 use Rattle.ix_walk.specs.declared.visit.Visit.{Visit}
 use Rattle.ix_walk.specs.Visits.{believed, arrivals_of, visit_of, visits_from}
 use Rattle.ix_walk.specs.Arrivals.{Arrival}
-use Rattle.ix_verdict.specs.Verdict.{digest_by}
+use Rattle.ix_verdict.specs.Verdict.{digest_by, is_sound}
 use Rattle.ix_check.specs.Verdict.{has_codec, is_no_data, verdict_by, verdict_with, verdict_of}
 use Rattle.ix_verdict.specs.declared.verdict.Verdict.{Verdict}
 use Rattle.ix_verdict.specs.declared.verdict.Verdict.TheVariants.{Codec, Hash, Missing, Damaged, Malformed, Sound, Inline}
 use Rattle.ix_car.specs.declared.sink.Delivery.{Delivery}
-use Rattle.ix_car.specs.Archive.{is_sound, first_sound, sections_of}
+use Rattle.ix_car.specs.Archive.{first_sound, sections_of}
 use Rattle.ix_car.specs.Verified.{judged, all_judged, number_among, verified, verified_arrivals}
 use Rattle.ix_verify.specs.Judged.{verdict_by_hash, section_verdict, IsSoundSection}
 use Rattle.ix_verify.specs.Written.{IsJudged}

@@ -4,7 +4,7 @@ use Rattle.ix_verdict.specs.declared.verdict.Verdict.{Verdict}
 use Rattle.std.specs.Prelude.{map, not, if◌then◌else◌}
 use Rattle.ix_sections.specs.declared.reader.sections.Section.{Section}
 use Rattle.ix_sections.specs.SectionView.{section_of}
-use Rattle.ix_car.specs.Archive.{is_sound}
+use Rattle.ix_verdict.specs.Verdict.{is_sound}
 use Rattle.ix_verify.specs.Judged.{verdict_in}
 use Rattle.ix_verify.specs.Found.{told_of, unsound_of}
 use Rattle.ix_verify.specs.Counted.{told_if, told_among}

@@ -29,7 +29,8 @@ use Rattle.ix_verdict.specs.declared.verdict.Verdict.TheVariants.{Codec, Hash, D
 use Rattle.ix_car.specs.declared.archive.Skip.{Skip}
 use Rattle.ix_car.specs.declared.sink.Delivery.{Delivery}
 use Rattle.ix_sections.specs.Writing.{header_of}
-use Rattle.ix_car.specs.Archive.{is_sound, first_sound, section_of}
+use Rattle.ix_car.specs.Archive.{first_sound, section_of}
+use Rattle.ix_verdict.specs.Verdict.{is_sound}
 use Rattle.ix_car.specs.Report.{skips_of}
 use Rattle.ix_sections.specs.Sections.{SectionMeaning, with_sections}
 use Rattle.ix_car.specs.Verified.{judged, verified, judged_visits}

@@ -4,7 +4,7 @@ use Rattle.std.specs.Borrow.{Bor}
 use Rattle.std.specs.Global.{Vec}
 use Rattle.ix_verdict.specs.declared.verdict.Verdict.{Verdict}
 use Rattle.ix_sections.specs.declared.reader.sections.Section.{Section}
-use Rattle.ix_car.specs.Archive.{is_sound}
+use Rattle.ix_verdict.specs.Verdict.{is_sound}
 use Rattle.ix_sections.specs.declared.fault.CarFault.{CarFault}
 use Rattle.ix_sections.specs.Gives.{FailsAs}
 use Rattle.ix_sections.specs.Sections.{SectionMeaning, sections_after, section_list, roots_of}

@@ -9,10 +9,9 @@ use Rattle.ix_store.specs.Sound.{sound_copies, later_count}
 use Rattle.ix_walk.specs.Visits.{is_over_limit}
 use Rattle.ix_walk.specs.Once.{first_ones}
 use Rattle.ix_check.specs.Verdict.{passes}
-use Rattle.ix_verdict.specs.Verdict.{is_missing}
+use Rattle.ix_verdict.specs.Verdict.{is_missing, is_sound}
 use Rattle.ix_car.specs.declared.archive.Skip.{Skip}
 use Rattle.ix_car.specs.declared.sink.Delivery.{Delivery}
-use Rattle.ix_car.specs.Archive.{is_sound}
 use Rattle.ix_car.specs.Verified.{judged_visits}
 use Rattle.ix_sections.specs.declared.fault.CarFault.{CarFault}
 use Rattle.ix_sections.specs.Copies.{copies_of}

@@ -5,7 +5,7 @@ ghost use Rattle.ix_sections.specs.declared.fault.CarKind.TheVariants.{Memory};
 ghost use Rattle.ix_sections.specs.Gives.{IsFaultOf};
 ghost use Rattle.ix_sections.specs.SectionView.{section_of};
 ghost use Rattle.ix_sections.specs.Sections.{section_list};
-ghost use Rattle.ix_car.specs.Archive.{is_sound};
+ghost use Rattle.ix_verdict.specs.Verdict.{is_sound};
 ghost use Rattle.ix_verify.specs.declared.found.Scope.TheVariants.{Sections as OfSections, Graph as OfGraph};
 ghost use Rattle.ix_verify.specs.Outcome.{section_finding};
 ghost use Rattle.ix_verify.specs.Noting.{NotesMore};
@@ -315,7 +315,7 @@ fn note_section(
     requires { unsound.old.count + 1 < 2 ^ 64 }
     ensures { OnOk result (NotesMore section_finding most (told_if section.now verdict) unsound.old unsound.new) }
 {
-    if is_sound(verdict) {
+    if verdict.is_sound() {
         return Ok(());
     }
     if !unsound.has_room(most) {
@@ -328,10 +328,4 @@ fn note_section(
         verdict,
     };
     unsound.note(most, verdict, told)
-}
-
-fn is_sound(verdict: Verdict) -> bool
-    ensures { result ≡ is_sound verdict }
-{
-    verdict == Verdict::Sound
 }

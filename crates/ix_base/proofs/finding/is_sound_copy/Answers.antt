@@ -1,5 +1,5 @@
 use Rattle.std.proofs.Common.{sym, ap, ◌∙◌}
-use Rattle.ix_car.specs.Archive.{is_sound}
+use Rattle.ix_verdict.specs.Verdict.{is_sound}
 use Rattle.ix_store.proofs.Blocks.{place_within}
 use Rattle.ix_base.proofs.Copies.{known-copy}
 use Rattle.ix_base.proofs.finding.is_sound_copy.Goals as goal

@@ -1,5 +1,5 @@
 use Rattle.std.proofs.Common.{sym, ap, ◌∙◌}
-use Rattle.ix_car.specs.Archive.{is_sound}
+use Rattle.ix_verdict.specs.Verdict.{is_sound}
 use Rattle.ix_receive.proofs.Bases.{base-none, base-lacks, base-has}
 use Rattle.ix_receive.proofs.base.Base.store_with.Goals as goal
 
