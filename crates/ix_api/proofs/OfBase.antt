@@ -6,11 +6,11 @@ use Rattle.ix_store.specs.Store.{Blocks}
 use Rattle.ix_store.specs.declared.places.PlaceSet.{PlaceSet}
 use Rattle.ix_walk.specs.JobMeaning.{JobMeaning}
 use Rattle.ix_car.specs.declared.sink.Delivery.{Delivery}
-use Rattle.ix_car.specs.Archive.{known_at, archive_without, difference_of}
+use Rattle.ix_car.specs.Archive.{known_at, archive_without, difference_of, known_by}
 use Rattle.ix_car.specs.ArchiveMeaning.{IsProperPrefix, HasWrittenWithout}
 use Rattle.ix_car.specs.Archived.{IsBeginning}
 use Rattle.ix_car.specs.Kept.{kept}
-use Rattle.ix_car.specs.KnownPlaces.{known_by, IsKnownIn}
+use Rattle.ix_known.specs.Known.{IsKnownIn}
 use Rattle.ix_car.specs.Verified.{verified}
 use Rattle.ix_car.proofs.KnownBlocks.{places-of-base}
 use Rattle.ix_jobs.specs.declared.results.JobResult.{JobResult}

@@ -5,8 +5,7 @@ use Rattle.std.specs.Arc.{arc_value}
 use Rattle.std.specs.declared.sync.Arc.{Arc}
 use Rattle.ix_store.specs.Store.{Blocks}
 use Rattle.ix_walk.specs.JobMeaning.{going_in}
-use Rattle.ix_car.specs.Archive.{Known}
-use Rattle.ix_car.specs.KnownPlaces.{known_by}
+use Rattle.ix_car.specs.Archive.{Known, known_by}
 use Rattle.ix_api.specs.declared.request.Request.{Request}
 
 -- what the receiver of a request is known to have: the sound blocks of the base, if there is one

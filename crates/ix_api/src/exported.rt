@@ -1,15 +1,14 @@
 //! Exports one job on the caller's thread.
 
 ghost use Rattle.std.specs.Prelude.{None, Some, IfOk};
-ghost use Rattle.ix_car.specs.Archive.{known_at};
+ghost use Rattle.ix_car.specs.Archive.{known_at, known_by};
 ghost use Rattle.ix_car.specs.ArchiveMeaning.{borrowed};
-ghost use Rattle.ix_car.specs.KnownPlaces.{known_by};
 ghost use Rattle.ix_api.specs.Exporting.{HasExported, IsWholeAtDone, IsBegun};
 ghost use Rattle.ix_api.specs.Requests.{known_to};
 
 use crate::request::Request;
-use ix_car::known_places_alone;
 use ix_jobs::{JobResult, report};
+use ix_known::known_places_alone;
 use ix_run::run_one_without;
 use ix_store::{PlaceSet, Store};
 use ix_walk::Job;

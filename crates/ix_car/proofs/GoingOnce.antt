@@ -26,7 +26,7 @@ use Rattle.ix_car.specs.declared.sink.Delivery.{Delivery}
 use Rattle.ix_car.specs.Kept.{is_below, cut_at, kept_after}
 use Rattle.ix_car.specs.Verified.{is_good, verified_arrivals, number_among, judged, verified}
 use Rattle.ix_sections.specs.Writing.{section_with, header_of}
-use Rattle.ix_car.specs.KnownPlaces.{knows}
+use Rattle.ix_known.specs.Known.{knows}
 use Rattle.ix_car.specs.Archive.{first_sound, sections_of, archive_with, archive_of}
 use Rattle.ix_verdict.specs.Verdict.{is_sound}
 use Rattle.ix_car.specs.Archived.{IsBeginning}

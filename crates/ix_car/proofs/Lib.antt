@@ -3,7 +3,6 @@ pub mod Pruning
 pub mod FirstSound
 pub mod KnownCounts
 pub mod KnownBlocks
-pub mod KnownIn
 pub mod Tally
 pub mod Delivered
 pub mod Steps

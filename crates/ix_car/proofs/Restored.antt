@@ -13,11 +13,11 @@ use Rattle.ix_cbor.specs.Data.{Data}
 use Rattle.ix_selector.specs.IsEntered.{is_entered}
 use Rattle.ix_selector.specs.Behind.{residual_at, same_residual}
 use Rattle.ix_store.specs.Store.{Blocks, has_cid, with_block, with_blocks, block_of, value_of}
-use Rattle.ix_store.specs.Sound.{AreSound, first_copies}
+use Rattle.ix_store.specs.Sound.{AreSoundCopies, first_copies}
 use Rattle.ix_walk.specs.JobMeaning.{JobMeaning}
 use Rattle.ix_walk.specs.Arrivals.{Arrival}
 use Rattle.ix_walk.specs.Visits.{believed, arrivals_of, visits_from, is_over_limit}
-use Rattle.ix_walk.specs.Once.{roots_from, first_ones, is_sound_by, sound_value, once_arrivals}
+use Rattle.ix_walk.specs.Once.{roots_from, first_ones, bytes_match_by, sound_value, once_arrivals}
 use Rattle.ix_walk.proofs.Firsts.{In, filter-in, first_ones-in, in-first_ones}
 use Rattle.ix_walk.proofs.Links.{all-weaker, all-both, cid_of}
 use Rattle.ix_verdict.specs.declared.verdict.Verdict.{Verdict}
@@ -27,9 +27,9 @@ use Rattle.ix_sections.specs.Writing.{section_with, header_of}
 use Rattle.ix_car.specs.declared.sink.Delivery.{Delivery}
 use Rattle.ix_car.specs.Kept.{kept_after, kept_of, kept}
 use Rattle.ix_car.specs.Verified.{is_good, judged, judged_visits, all_judged, verified}
-use Rattle.ix_car.specs.Archive.{Known, first_sound, new_section, sections_of, new_sections, archive_with, difference_of}
+use Rattle.ix_car.specs.Archive.{Known, first_sound, new_section, sections_of, new_sections, archive_with, difference_of, known_by}
 use Rattle.ix_verdict.specs.Verdict.{is_sound}
-use Rattle.ix_car.specs.KnownPlaces.{knows, known_by}
+use Rattle.ix_known.specs.Known.{knows}
 use Rattle.ix_car.specs.Report.{skips_of}
 use Rattle.ix_car.specs.Restoring.{pair_with, difference_pairs, AgreesWith, IsWithoutSkips, IsRestoredBy}
 use Rattle.ix_car.proofs.SoundValues.{value_by}
@@ -105,7 +105,7 @@ block-right (x ∷ xs) ys c h =
     [ true ↦ λ e. absurd (cc e) | false ↦ λ e. block-right xs ys c e ]) h
 
 -- what passes for all pairs passes for the block of a CID
-block-passes : (es : Blocks) (c b : List ℕ) → AreSound es → block_of es c ≡ Some b → passes (verdict_with c (Some b)) ≡ true
+block-passes : (es : Blocks) (c b : List ℕ) → AreSoundCopies es → block_of es c ≡ Some b → passes (verdict_with c (Some b)) ≡ true
 block-passes [] c b all h = absurd (cc h)
 block-passes (e ∷ es) c b all h = by (block-passes es c b (All-tail is_passing e es all)) (bytes_eq e.0 c) refl h where
   is_passing : List ℕ × List ℕ → Type 0
@@ -114,32 +114,6 @@ block-passes (e ∷ es) c b all h = by (block-passes es c b (All-tail is_passing
   by : (block_of es c ≡ Some b → passes (verdict_with c (Some b)) ≡ true) → (v : Bool) → bytes_eq e.0 c ≡ v → (if v then Some e.1 else block_of es c) ≡ Some b → passes (verdict_with c (Some b)) ≡ true
   by later true is at = ap (λ o. passes (verdict_with c o)) (sym at) ∙ ap (λ d. passes (verdict_with d (Some e.1))) (sym ((bytes_eq-Decides e.0 c).0 is)) ∙ All-head is_passing e es all
   by later false isnt at = later at
-
--- a pair of another CID changes nothing
-block-other : (xs ys : Blocks) (p : List ℕ × List ℕ) (c : List ℕ) → bytes_eq p.0 c ≡ false → block_of (xs ++ ys) c ≡ block_of (xs ++ p ∷ ys) c
-block-other [] ys p c h = sym (ap (λ v. if v then Some p.1 else block_of ys c) h)
-block-other (x ∷ xs) ys p c h = ap (λ o. if bytes_eq x.0 c then Some x.1 else o) (block-other xs ys p c h)
-
--- nor does one whose CID is there before it
-block-later : (xs ys : Blocks) (p : List ℕ × List ℕ) (c : List ℕ) → has_cid xs p.0 ≡ true → block_of (xs ++ ys) c ≡ block_of (xs ++ p ∷ ys) c
-block-later xs ys p c there = by (bytes_eq p.0 c) refl where
-  under : (es : Blocks) → has_cid es c ≡ true → block_of (es ++ ys) c ≡ block_of (es ++ p ∷ ys) c
-  under [] h = absurd (cc h)
-  under (e ∷ es) h =
-      (elim (bytes_eq e.0 c) as (λ v. (v || has_cid es c) ≡ true → (if v then Some e.1 else block_of (es ++ ys) c) ≡ (if v then Some e.1 else block_of (es ++ p ∷ ys) c))
-      [ true ↦ λ g. refl | false ↦ λ g. under es g ]) h
-
-  by : (b : Bool) → bytes_eq p.0 c ≡ b → block_of (xs ++ ys) c ≡ block_of (xs ++ p ∷ ys) c
-  by true is = under xs (ap (has_cid xs) (sym ((bytes_eq-Decides p.0 c).0 is)) ∙ there)
-  by false isnt = block-other xs ys p c isnt
-
--- the blocks of a store with many more are the first of all
-blocks-first : (store ps : Blocks) (c : List ℕ) → block_of (with_blocks store ps) c ≡ block_of (store ++ ps) c
-blocks-first store [] c = ap (λ l. block_of l c) (sym (append-nil store))
-blocks-first store (p ∷ ps) c = blocks-first (with_block store p) ps c ∙ by (has_cid store p.0) refl where
-  by : (b : Bool) → has_cid store p.0 ≡ b → block_of ((if b then store else store ++ p ∷ []) ++ ps) c ≡ block_of (store ++ p ∷ ps) c
-  by true there = block-later store ps p c there
-  by false new = ap (λ l. block_of l c) (append_assoc store (p ∷ []) ps)
 
 module _ (store : Blocks) (c b : List ℕ) (at : block_of store c ≡ Some b) where
   -- a pair of another CID isn't found
@@ -270,7 +244,7 @@ not-inline hash c true (Some b) h = by (bytes_eq (hash b) (digest_of c)) (is_no_
 
 -- the data of a CID with this block, if it is sound
 abbrev sound_by : List ℕ → Option HashFunction → Option (List ℕ) → Option Data
-sound_by c f block = if is_sound_by f (digest_of c) block then value_by c f block else None
+sound_by c f block = if bytes_match_by f (digest_of c) block then value_by c f block else None
 
 -- with either block, the verdict is the same and the same is expanded
 abbrev IsSameWith : List ℕ → Option HashFunction → Option (List ℕ) → Option (List ℕ) → Type 0
@@ -420,7 +394,7 @@ module _ (store base : Blocks) (number : ℕ) (job : JobMeaning) (agrees : Agree
         by true known b at = block-right (pairs_of store new) base c (new-not c known) ∙ agrees c known sound
         by false unknown b at = block-left (pairs_of store new) base c b (new-there c b i sound at unknown) ∙ sym at
 
-  module _ (all : AreSound (first_copies base)) where
+  module _ (all : AreSoundCopies (first_copies base)) where
     -- a sound CID that the base doesn't know isn't in it
     not-there : (c : List ℕ) → knows store c ≡ true → knows base c ≡ false → block_of base c ≡ None
     not-there c sound unknown = by (block_of base c) refl where
@@ -459,7 +433,7 @@ difference-first store base number job agrees done =
     restored store other number job done (all-visits (Has store other) (arrivals_of store job) (first-has store base number job agrees done))
 
 -- the law `BaseThenDifferenceRestores`
-pub base-first : (store base : Blocks) (number : ℕ) (job : JobMeaning) → AreSound (first_copies base) → AgreesWith base store → IsWithoutSkips store number job
+pub base-first : (store base : Blocks) (number : ℕ) (job : JobMeaning) → AreSoundCopies (first_copies base) → AgreesWith base store → IsWithoutSkips store number job
     → IsRestoredBy store number job (first_copies (base ++ difference_pairs (known_by base) store number job))
 base-first store base number job all agrees done =
     let other : Blocks = first_copies (base ++ difference_pairs (known_by base) store number job) in

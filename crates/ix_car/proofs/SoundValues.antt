@@ -9,7 +9,7 @@ use Rattle.ix_cid.specs.declared.hash_function.HashFunction.TheVariants.{Identit
 use Rattle.ix_cbor.specs.Data.{Data}
 use Rattle.ix_cbor.specs.Reading.{data_at}
 use Rattle.ix_store.specs.Store.{Blocks, block_of, bytes_by, is_dag_cbor, value_of}
-use Rattle.ix_walk.specs.Once.{is_sound_by, sound_value}
+use Rattle.ix_walk.specs.Once.{bytes_match_by, sound_value}
 use Rattle.ix_check.specs.Verdict.{is_no_data, verdict_by, has_codec, passes}
 use Rattle.ix_verdict.specs.declared.verdict.Verdict.{Verdict}
 use Rattle.ix_verdict.specs.declared.verdict.Verdict.TheVariants.{Codec, Hash, Missing, Damaged, Malformed, Sound, Inline}
@@ -51,7 +51,7 @@ agreed c block false = refused (has_codec c) Damaged (if is_dag_cbor c then data
 
 -- by the hash function: what has a good verdict is what is sound
 sound-by : (c : List ℕ) (f : Option HashFunction) (block : Option (List ℕ))
-    → (if passes (if has_codec c then verdict_by f c block else Codec) then value_by c f block else None) ≡ (if is_sound_by f (digest_of c) block then value_by c f block else None)
+    → (if passes (if has_codec c then verdict_by f c block else Codec) then value_by c f block else None) ≡ (if bytes_match_by f (digest_of c) block then value_by c f block else None)
 sound-by c None block = refused (has_codec c) Hash (value_by c None block) refl
 sound-by c (Some Identity) block = good (codec_of c == 0x55) (codec_of c == 0x71) (data_at (digest_of c)) Inline refl
 sound-by c (Some Sha2_256) None = refused (has_codec c) Missing (value_by c (Some Sha2_256) None) refl

@@ -4,7 +4,7 @@ use Rattle.std.specs.List.{Contains}
 use Rattle.ix_selector.specs.IsEntered.{is_entered}
 use Rattle.ix_selector.specs.Pattern.{IsSelector}
 use Rattle.ix_store.specs.Store.{Blocks, value_of}
-use Rattle.ix_store.specs.Sound.{AreSound, first_copies}
+use Rattle.ix_store.specs.Sound.{AreSoundCopies, first_copies}
 use Rattle.ix_store.specs.declared.places.PlaceSet.{PlaceSet}
 use Rattle.ix_walk.specs.JobMeaning.{JobMeaning, going_in}
 use Rattle.ix_walk.specs.Arrivals.{Arrival, arrivals_from}
@@ -19,9 +19,9 @@ use Rattle.ix_car.specs.Kept.{kept, without_deeper_than}
 use Rattle.ix_sections.specs.Writing.{header_of, section_with}
 use Rattle.ix_car.specs.Verified.{only_passing, is_good, judged, verified, judged_visits}
 use Rattle.ix_car.specs.Faithful.{IsFaithful}
-use Rattle.ix_car.specs.Archive.{Known, is_known, known_at, first_sound, section_of, sections_of, archive_without, archive_with, difference_of, archive_of}
+use Rattle.ix_car.specs.Archive.{Known, is_known, known_at, first_sound, section_of, sections_of, archive_without, archive_with, difference_of, archive_of, known_by}
 use Rattle.ix_verdict.specs.Verdict.{is_sound}
-use Rattle.ix_car.specs.KnownPlaces.{known_by, IsKnownIn}
+use Rattle.ix_known.specs.Known.{IsKnownIn}
 use Rattle.ix_car.specs.Report.{counts_of}
 use Rattle.ix_car.specs.Restoring.{difference_pairs, AgreesWith, IsWithoutSkips, IsRestoredBy}
 use Rattle.ix_car.specs.ArchiveMeaning.{ArchiveMeaning, HasArchived, calls_of}
@@ -153,5 +153,5 @@ DifferenceThenBaseRestores =
 -- and by the base followed by the difference, if the first copies in the base are all sound
 abbrev pub BaseThenDifferenceRestores : Type 0
 BaseThenDifferenceRestores =
-    (store base : Blocks) (number : ℕ) (job : JobMeaning) → AreSound (first_copies base) → AgreesWith base store → IsWithoutSkips store number job
+    (store base : Blocks) (number : ℕ) (job : JobMeaning) → AreSoundCopies (first_copies base) → AgreesWith base store → IsWithoutSkips store number job
     → IsRestoredBy store number job (first_copies (base ++ difference_pairs (known_by base) store number job))

@@ -3,7 +3,6 @@ pub mod Kept
 pub mod Verified
 pub mod Archive
 pub mod ArchiveMeaning
-pub mod KnownPlaces
 pub mod Archiving
 pub mod ArchiveNew
 pub mod Report

@@ -5,7 +5,7 @@ use Rattle.ix_walk.specs.JobMeaning.{JobMeaning}
 use Rattle.ix_walk.specs.Visits.{is_over_limit}
 use Rattle.ix_car.specs.Verified.{verified, judged_visits}
 use Rattle.ix_car.specs.Archive.{Known, new_sections, archive_of}
-use Rattle.ix_car.specs.KnownPlaces.{knows}
+use Rattle.ix_known.specs.Known.{knows}
 use Rattle.ix_car.specs.Report.{skips_of}
 
 -- the pair of a CID and its block, or nothing if there is no block

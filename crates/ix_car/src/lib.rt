@@ -19,12 +19,10 @@
 
 mod archive;
 mod fault;
-mod known;
 pub mod law;
 mod sink;
 
 pub use archive::{Archive, Counts, Skip};
 pub use fault::{ArchiveNew, SinkFault};
 pub use ix_sections::{CarFault, CarKind, read_car};
-pub use known::{known_places_alone, knows};
 pub use sink::{Delivery, End, Sink};

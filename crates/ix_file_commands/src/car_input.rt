@@ -3,8 +3,7 @@
 use ix_cli_io::{Failure, Progress, Stop, load_input};
 use ix_options::cause_of;
 use ix_run::RunFault;
-use ix_sections::{CarFault, payload_of};
-use ix_verify::{CarBytes, Kind, kind_of};
+use ix_sections::{CarBytes, CarFault, Kind, kind_of, payload_of};
 use std::alloc::{AllocError, Global};
 use std::fs::File;
 use std::rt::{Clock, Files};

@@ -12,9 +12,10 @@ use ix_options::{
 };
 use ix_run::RunFault;
 use ix_sections::{
-    CarFault, CarKind, Payload, Section, has_index, is_carv2, payload_of, read_header, read_section,
+    CarFault, CarKind, Kind, Payload, Section, has_index, is_carv2, kind_of, payload_of,
+    read_header, read_section,
 };
-use ix_verify::{Kind, Summary, codec_name, hash_name, kind_of, summary_of};
+use ix_verify::{Summary, codec_name, hash_name, summary_of};
 use std::alloc::{AllocError, Global};
 use std::fmt::Write as FmtWrite;
 use std::io::{self, BufWriter, ErrorKind, Write};

@@ -18,13 +18,13 @@ use ix_options::{
     Host, JSON, VERIFIERS, available_processors, failure_object, later_note, most_input, print_all,
     print_notes, progress_mode,
 };
-use ix_sections::read_header;
+use ix_sections::{Copies, read_header};
 use ix_store::Store;
 use ix_trace::trace;
 use ix_verdict::AllowMissing;
 use ix_verify::{
-    Beside, Copies, Findings, JobWalk, Observer, OtherFile, Scope, load_beside, verify_beside,
-    verify_job, verify_sections,
+    Beside, Findings, JobWalk, Observer, OtherFile, Scope, load_beside, verify_beside, verify_job,
+    verify_sections,
 };
 use ix_walk::Job;
 use std::alloc::{AllocError, Global};
@@ -308,7 +308,7 @@ impl<'a> VerifyCommand<'a> {
             shows_absent: self.allowed.is_some(),
             paths: paths.as_slice(),
         };
-        let status = if self.is_quiet && report.is_sound() {
+        let status = if self.is_quiet && report.is_whole() {
             0
         } else {
             print_report(rt, &report)?

@@ -45,7 +45,7 @@ pub(crate) struct Report<'a> {
 
 impl<'a> Report<'a> {
     /// Returns whether the file is sound.
-    pub(crate) fn is_sound(&self) -> bool {
+    pub(crate) fn is_whole(&self) -> bool {
         self.found.outcome() == Outcome::Sound && self.inexact.is_none()
     }
 
@@ -135,7 +135,7 @@ pub(crate) fn print_report<R: AllocGlobal + Print>(
     rt: &R,
     report: &Report<'_>,
 ) -> Result<u8, Failure> {
-    let status = if report.is_sound() { 0 } else { NOT_SOUND };
+    let status = if report.is_whole() { 0 } else { NOT_SOUND };
     match write_report(rt, report) {
         Ok(()) => Ok(status),
         Err(Stop::Output(error)) if error.kind() == ErrorKind::BrokenPipe => Ok(status),
@@ -186,7 +186,7 @@ fn write_summary<W: Write>(alloc: Global, output: &mut W, report: &Report<'_>) -
     let sections = found.sections;
     let outcome = report.outcome(alloc)?;
     let mut line = format!(in alloc; "{path} {outcome} sections={sections} bytes={bytes}")?;
-    if !report.is_sound() {
+    if !report.is_whole() {
         let (unsound, skips) = (found.unsound.count, found.skips.count);
         line.push_str(format!(in alloc; " unsound={unsound} skips={skips}")?.as_str())?;
     }

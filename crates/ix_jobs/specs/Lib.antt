@@ -16,3 +16,4 @@ pub mod PartList
 pub mod Joined
 pub mod Examples
 pub mod Laws
+pub mod Listing

@@ -61,7 +61,7 @@ pub use list::listed_cids;
 pub use list_fault::{ListErrorKind, ListFault, list_fault_line};
 pub use part::Part;
 pub use part_jobs::read_jobs_part_up_to;
-pub use places::insert_listed;
+pub use places::{insert_listed, with_listed};
 pub use results::{JobResult, report, report_with_absent, status};
 pub use selector_word::{SelectorWord, selector_hex};
 pub use worded_job::{JobWords, jobs_of_words};

@@ -6,13 +6,13 @@ use Rattle.std.specs.Borrow.{Bor}
 use Rattle.std.specs.Global.{Vec}
 use Rattle.ix_store.specs.Store.{Blocks}
 use Rattle.ix_store.specs.declared.places.PlaceSet.{PlaceSet}
-use Rattle.ix_files.specs.Known.{IsKnownIn}
+use Rattle.ix_known.specs.Files.{IsKnownByFiles}
 use Rattle.ix_cli_io.specs.declared.fault.Failure.{Failure}
 use Rattle.ix_load.specs.declared.blocks.LoadedBlocks.{LoadedBlocks}
 use Rattle.ix_load.specs.Receiver.{KnowsFiles, KnowsListed, KnowsList, AddsFiles, AddsSomeList, AddsKnown}
 
 -- some files, and what they have
-pub knows-files : (carv2 : Bool) (store : Blocks) (files : List (Vec ℕ)) (before : Option PlaceSet) (places : PlaceSet) → 0 < length files → IsKnownIn carv2 store files places
+pub knows-files : (carv2 : Bool) (store : Blocks) (files : List (Vec ℕ)) (before : Option PlaceSet) (places : PlaceSet) → 0 < length files → IsKnownByFiles carv2 store files places
     → KnowsFiles carv2 store files before (Some places)
 knows-files carv2 store [] before places some is = absurd (omega (arith, some))
 knows-files carv2 store (file ∷ files) before places some is = (places, refl, is)

@@ -5,13 +5,14 @@ use Rattle.std.specs.Borrow.{Bor}
 use Rattle.std.specs.Global.{Vec}
 use Rattle.ix_store.specs.Store.{Blocks}
 use Rattle.ix_store.specs.declared.places.PlaceSet.{PlaceSet}
-use Rattle.ix_files.specs.Known.{IsKnownIn, IsKnownWith}
+use Rattle.ix_known.specs.Files.{IsKnownByFiles}
+use Rattle.ix_jobs.specs.Listing.{IsKnownWith}
 use Rattle.ix_load.specs.declared.blocks.LoadedBlocks.{LoadedBlocks}
 
 -- by its files: what they have, or no more than before if there are none
 abbrev pub KnowsFiles : Bool → Blocks → List (Vec ℕ) → Option PlaceSet → Option PlaceSet → Type 0
 KnowsFiles carv2 store [] before known = known ≡ before
-KnowsFiles carv2 store (file ∷ files) before known = (places : PlaceSet) × (known ≡ Some places) × IsKnownIn carv2 store (file ∷ files) places
+KnowsFiles carv2 store (file ∷ files) before known = (places : PlaceSet) × (known ≡ Some places) × IsKnownByFiles carv2 store (file ∷ files) places
 
 -- by a list of CIDs with these bytes
 abbrev pub KnowsListed : Blocks → List ℕ → Option PlaceSet → Option PlaceSet → Type 0

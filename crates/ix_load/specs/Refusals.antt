@@ -7,9 +7,9 @@ use Rattle.ix_run.specs.declared.fault.RunFault.{RunFault}
 use Rattle.ix_run.specs.declared.fault.RunFault.TheVariants.{Car}
 use Rattle.ix_cli_io.specs.declared.fault.Failure.{Failure}
 use Rattle.ix_cli_io.specs.declared.fault.Failure.TheVariants.{Explained, InFile}
-use Rattle.ix_files.specs.declared.fault.FileFault.{FileFault}
-use Rattle.ix_files.specs.declared.store.Reading.{Reading}
-use Rattle.ix_files.specs.Files.{IsFirstFault}
+use Rattle.ix_sections.specs.declared.files.fault.FileFault.{FileFault}
+use Rattle.ix_sections.specs.declared.files.store.Reading.{Reading}
+use Rattle.ix_sections.specs.Files.{IsFirstFault}
 
 -- the paths of files
 abbrev pub paths_in : Vec (Bor (List ℕ)) → List (List ℕ)

@@ -2,9 +2,9 @@
 
 ghost use Rattle.std.specs.Prelude.{◌≡◌, IfOk, IfErr, None};
 ghost use Rattle.std.specs.Arc.{arc_value};
-ghost use Rattle.ix_files.specs.Files.{IsStoreOf};
-ghost use Rattle.ix_files.specs.Known.{IsKnownIn};
-ghost use Rattle.ix_files.specs.declared.loader.Copies.TheVariants.{First};
+ghost use Rattle.ix_sections.specs.Files.{IsStoreOf};
+ghost use Rattle.ix_known.specs.Files.{IsKnownByFiles};
+ghost use Rattle.ix_sections.specs.declared.files.loader.Copies.TheVariants.{First};
 ghost use Rattle.ix_load.specs.Refusals.{NamesCarFault, NamesFault, NamesFirst, NamesNone, paths_in};
 
 use clap::ArgMatches;
@@ -13,14 +13,16 @@ use ix_cid::{Cid, read_varint};
 use ix_cli_io::{
     Failure, Progress, STANDARD_INPUT, check_index, check_memory, load_input, size_of_all,
 };
-use ix_files::{Copies, FileBlocks, FileFault, Reading, blocks_of, known_of};
+use ix_known::known_of;
 use ix_options::{
     ArgSpec, BLOCKS, CommandSpec, PREFER_SOUND, WITHOUT, cause_of, later_note, print_notes,
 };
 use ix_run::RunFault;
-use ix_sections::{CarFault, payload_of, read_header};
+use ix_sections::{
+    CarFault, Copies, FileBlocks, FileFault, Kind, Reading, blocks_of, kind_of, payload_of,
+    read_header,
+};
 use ix_store::{PlaceSet, Store};
-use ix_verify::{Kind, kind_of};
 use std::alloc::{AllocError, Global};
 use std::fs::File;
 use std::rt::{Clock, Files};
@@ -289,7 +291,7 @@ impl<'a> BlockFiles<'a> {
         files: Vec<Vec<u8>>,
         threads: usize,
     ) -> Result<PlaceSet, Failure>
-        ensures known { IfOk result (IsKnownIn self.now.reading.carv2 store.now files.items) }
+        ensures known { IfOk result (IsKnownByFiles self.now.reading.carv2 store.now files.items) }
         ensures refused { IfErr result (NamesFirst (paths_in self.now.paths)
             (record { carv2 = self.now.reading.carv2; copies = First }) files.items) }
     {

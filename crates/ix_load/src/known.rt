@@ -8,7 +8,7 @@ use crate::rejected::list_failure;
 use clap::ArgMatches;
 use clap::error::ErrorKind;
 use ix_cli_io::{Failure, Progress, STANDARD_INPUT, read_input, size_of_all};
-use ix_files::with_listed;
+use ix_jobs::with_listed;
 use ix_options::{BLOCKS, CommandSpec, WITHOUT, WITHOUT_LIST};
 use std::alloc::{AllocError, Global};
 use std::fs::File;

@@ -1,7 +1,6 @@
 //! What a file is, in words.
 
-use ix_sections::{CarFault, CarKind};
-use ix_verify::Kind;
+use ix_sections::{CarFault, CarKind, Kind};
 
 /// What is wrong with a CARv2 file whose payload can't be read.
 pub const CARV2_HEADER: &str =

@@ -74,7 +74,7 @@ module _ (store : Blocks) (enters : Path → Bool) (rest : Path → List Place) 
   -- the data that are expanded there
   expanded-cids : (t : Bool) (c : List ℕ) (d : Data) → cond t None (walks.sound_value store c) ≡ Some d → HasCids d
   expanded-cids true c d h = absurd (cc h)
-  expanded-cids false c d h = value-cids (walks.is_sound store c) (is_dag_cbor c) (bytes_of store c) d h
+  expanded-cids false c d h = value-cids (walks.bytes_match store c) (is_dag_cbor c) (bytes_of store c) d h
 
   -- the visits of links that wait
   visits-cids : (n : ℕ) (expanded : List (List ℕ × List Place)) (waiting : List Arrival) → AllByRecursion VisitsCid waiting

@@ -1,7 +1,7 @@
 //! The receiver of an archive as a stream.
 
 ghost use Rattle.std.specs.Prelude.{◌≡◌, false, [], length, drop, IfOk, IfErr, OnOk};
-ghost use Rattle.ix_receive.specs.Base.{known_blocks, base_of};
+ghost use Rattle.ix_known.specs.Known.{known_blocks, known_blocks_of};
 ghost use Rattle.ix_receive.specs.Reception.{nothing_received_with};
 ghost use Rattle.ix_own_archive.specs.Streaming.{nothing_taken, TakesOn, StopsAt, IsStoppedAt, Takes, IsWholeStream, taken_of, IsCutAt, AreKeptOf};
 
@@ -69,7 +69,7 @@ fn receiver_with<'s>(
     allowed: AllowMissing,
     base: Option<&'s Store>,
 ) -> Receiver<'s>
-    ensures { result ≡ nothing_received_with (base_of base.entry) job.now allowed }
+    ensures { result ≡ nothing_received_with (known_blocks_of base.entry) job.now allowed }
 {
     match base {
         Some(base) => Receiver::with_base(alloc, job, allowed, base),
@@ -124,7 +124,7 @@ impl<'s> StreamReceiver<'s> {
         limits: StreamLimits,
     ) -> Result<StreamReceiver<'s>, AllocError>
         ensures { IfOk result (λ s. s ≡ nothing_taken (record {
-          base = base_of base.entry;
+          base = known_blocks_of base.entry;
           job = job.now;
           allowed = allowed;
           header = header;

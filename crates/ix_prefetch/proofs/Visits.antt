@@ -8,7 +8,7 @@ use Rattle.ix_store.specs.Store.{Blocks, position_of, value_of}
 use Rattle.ix_walk.specs.declared.subtree.PendingLink.{PendingLink}
 use Rattle.ix_walk.specs.declared.visit.Visit.{Visit}
 use Rattle.ix_walk.specs.declared.visited_set.VisitedSet.{VisitedSet}
-use Rattle.ix_walk.specs.Once.{is_sound}
+use Rattle.ix_walk.specs.Once.{bytes_match}
 use Rattle.ix_walk.specs.Arriving.{Goes, IsValue}
 use Rattle.ix_walk.specs.Visits.{is_malformed, whole_walk}
 use Rattle.ix_walk.specs.VisitedSet.{going_of}
@@ -36,7 +36,7 @@ use Rattle.ix_prefetch.proofs.Listing.{nothing_waits}
 -- the data that are expanded are those of the CID
 inside_value : (store : Blocks) (had : Option Going) (f : PendingLink) (d : Data) → data_inside store had f ≡ Some d → value_of store f.cid ≡ Some d
 inside_value store None f d e = e
-inside_value store (Some g) f d e = on (g f.cid f.residual) (is_sound store f.cid) e where
+inside_value store (Some g) f d e = on (g f.cid f.residual) (bytes_match store f.cid) e where
   on : (b s : Bool) → (if b then None else (if s then value_of store f.cid else None)) ≡ Some d → value_of store f.cid ≡ Some d
   on true s e = absurd cc
   on false true e = e

@@ -16,7 +16,7 @@ use Rattle.ix_store.specs.Store.{Blocks, block_of}
 use Rattle.ix_walk.specs.JobMeaning.{JobMeaning}
 use Rattle.ix_walk.specs.Arrivals.{Arrival}
 use Rattle.ix_walk.specs.Visits.{arrivals_of, is_over_limit}
-use Rattle.ix_walk.specs.Once.{roots_from, first_ones, is_sound_by, sound_value, once_arrivals}
+use Rattle.ix_walk.specs.Once.{roots_from, first_ones, bytes_match_by, sound_value, once_arrivals}
 use Rattle.ix_walk.proofs.Firsts.{In, filter-both, filter-in, in-filter, in-first_ones}
 use Rattle.ix_walk.proofs.Links.{cid_of}
 use Rattle.ix_verdict.specs.declared.verdict.Verdict.TheVariants.{Codec, Damaged, Malformed, Sound}
@@ -25,7 +25,7 @@ use Rattle.ix_car.specs.Verified.{all_judged}
 use Rattle.ix_car.specs.Restoring.{pair_with, difference_pairs}
 use Rattle.ix_car.specs.Archive.{Known, first_sound, sections_of, new_sections}
 use Rattle.ix_verdict.specs.Verdict.{is_sound}
-use Rattle.ix_car.specs.KnownPlaces.{knows}
+use Rattle.ix_known.specs.Known.{knows}
 use Rattle.ix_car.specs.Laws.{once}
 use Rattle.ix_car.proofs.SoundValues.{value_by}
 use Rattle.ix_car.specs.declared.sink.Delivery.{Delivery}
@@ -39,7 +39,7 @@ use Rattle.ix_receive.proofs.Lookup.{pair_in, pair-found, pair-absent}
 
 -- what is expanded of a CID with this block
 abbrev pub value_in : Option HashFunction → List ℕ → Option (List ℕ) → Option Data
-value_in f c o = if is_sound_by f (digest_of c) o then value_by c f o else None
+value_in f c o = if bytes_match_by f (digest_of c) o then value_by c f o else None
 
 -- nothing, if its verdict isn't that it is sound
 no-value : (raw dag agrees : Bool) (o : Option Data) → is_sound (if raw || dag then (if agrees then (if dag && is_none o then Malformed else Sound) else Damaged) else Codec) ≡ false

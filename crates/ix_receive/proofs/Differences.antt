@@ -14,18 +14,19 @@ use Rattle.ix_walk.proofs.Firsts.{In}
 use Rattle.ix_walk.proofs.Links.{cid_of}
 use Rattle.ix_walk.proofs.Reaches.{contains-in}
 use Rattle.ix_check.specs.Verdict.{verdict_with}
-use Rattle.ix_car.specs.Archive.{difference_of}
+use Rattle.ix_car.specs.Archive.{difference_of, known_by}
 use Rattle.ix_verdict.specs.Verdict.{is_sound}
-use Rattle.ix_car.specs.KnownPlaces.{knows, known_by}
+use Rattle.ix_known.specs.Known.{knows, known_blocks}
 use Rattle.ix_car.specs.Laws.{once}
 use Rattle.ix_car.proofs.Restored.{pairs-bytes}
 use Rattle.ix_car.proofs.Visited.{once-same}
 use Rattle.ix_receive.specs.Own.{archive_bytes, base_known, AreTheirOwnWith, IsItsOwnWith}
-use Rattle.ix_receive.specs.Base.{known_blocks, HasWhatIsKnown}
+use Rattle.ix_receive.specs.Base.{HasWhatIsKnown}
 use Rattle.ix_receive.proofs.Fresh.{outside, fresh, fresh-is, in-fresh, fresh-in}
-use Rattle.ix_receive.proofs.Lookup.{pair_in, block-left, block-right}
+use Rattle.ix_receive.proofs.Lookup.{pair_in}
+use Rattle.ix_known.proofs.Lists.{block-left, block-right}
 use Rattle.ix_receive.proofs.Again.{value_in, chosen, pairs-by, chosen-same, value-same, sections-same, sections-sound, each-inside}
-use Rattle.ix_receive.proofs.Bases.{known-block, known-has}
+use Rattle.ix_known.proofs.KnownBlocks.{known-block, known-has}
 
 module _ (store base : Blocks) (number : ℕ) (job : JobMeaning) (has : HasWhatIsKnown store base (once job)) where
   -- the known blocks of the base

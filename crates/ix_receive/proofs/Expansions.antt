@@ -26,11 +26,12 @@ use Rattle.ix_store.specs.Store.{Blocks, block_of, bytes_by, is_dag_cbor, value_
 use Rattle.ix_walk.specs.declared.subtree.PendingLink.{PendingLink}
 use Rattle.ix_walk.specs.VisitedSet.{cid_order}
 use Rattle.ix_walk.specs.Arriving.{IsValue}
-use Rattle.ix_walk.specs.Once.{is_sound_by, sound_value}
+use Rattle.ix_walk.specs.Once.{bytes_match_by, sound_value}
 use Rattle.ix_walk.specs.Walking.{waiting, Going, nothing_expanded, expanded_also, data_inside, expanded_after, links_inside}
 use Rattle.ix_walk.specs.Expansion.{AreLinksIn}
 use Rattle.ix_receive.specs.Waiting.{IsPutBefore}
-use Rattle.ix_receive.specs.Traversal.{AreSound, expanded_by, Expands}
+use Rattle.ix_receive.specs.Traversal.{expanded_by, Expands}
+use Rattle.ix_known.specs.Known.{AreSound}
 
 -- ---- sound sections
 
@@ -62,7 +63,7 @@ sound-hash false agrees m h = absurd (cc h)
 
 -- so what is there is sound
 value-by : (f : Option HashFunction) (c : List ℕ) (o : Option (List ℕ)) → ((b : List ℕ) → o ≡ Some b → is_sound (if has_codec c then verdict_by f c (Some b) else Codec) ≡ true)
-    → (if is_sound_by f (digest_of c) o then data_by f c o else None) ≡ data_by f c o
+    → (if bytes_match_by f (digest_of c) o then data_by f c o else None) ≡ data_by f c o
 value-by None c o h = no-data (is_dag_cbor c)
 value-by (Some Identity) c o h = refl
 value-by (Some Sha2_256) c None h = no-data (is_dag_cbor c)

@@ -20,7 +20,7 @@ use Rattle.ix_walk.proofs.Links.{cid_of, all-append, all-right}
 use Rattle.ix_walk.proofs.Reaches.{contains-in, in-contains}
 use Rattle.ix_check.specs.Verdict.{verdict_with}
 use Rattle.ix_verdict.specs.Verdict.{is_sound}
-use Rattle.ix_car.specs.KnownPlaces.{knows}
+use Rattle.ix_known.specs.Known.{knows}
 use Rattle.ix_car.specs.Restoring.{pair_with}
 use Rattle.ix_car.specs.Laws.{once}
 use Rattle.ix_car.proofs.Visited.{IsSameInside, once-same}
@@ -28,7 +28,8 @@ use Rattle.ix_receive.specs.Own.{base_known, AreTheirOwnWith}
 use Rattle.ix_receive.specs.Receiving.{first_visits, AreReceived, IsNextSection}
 use Rattle.ix_receive.proofs.Firsts.{AreApart, filter-apart, not-before, IsFirstOf, first-of, same-before}
 use Rattle.ix_receive.proofs.Fresh.{fresh, in-fresh, fresh-in, fresh-stay, fresh-split, fresh-last, fresh-apart}
-use Rattle.ix_receive.proofs.Lookup.{pair_in, pair-absent, block-left, block-right}
+use Rattle.ix_receive.proofs.Lookup.{pair_in, pair-absent}
+use Rattle.ix_known.proofs.Lists.{block-left, block-right}
 use Rattle.ix_receive.proofs.Again.{value_in, has_block, chosen, pairs-by, chosen-same, value-same, sections-same, sections-sound, each-inside}
 use Rattle.ix_receive.proofs.Visits.{next-same, fewer-visits}
 

@@ -37,10 +37,11 @@ use Rattle.ix_receive.specs.Receiving.{first_visits, AreReceived, IsNextSection}
 use Rattle.ix_receive.specs.declared.traversal.Skips.{Skips}
 use Rattle.ix_receive.specs.Missing.{lacks_block, is_unread}
 use Rattle.ix_receive.specs.Roots.{RootsPass}
-use Rattle.ix_receive.specs.Traversal.{AreSound, visited, expanded_by, links_of, IsTraversed, Expands, as_pending}
+use Rattle.ix_receive.specs.Traversal.{visited, expanded_by, links_of, IsTraversed, Expands, as_pending}
+use Rattle.ix_known.specs.Known.{AreSound}
 use Rattle.ix_receive.specs.Passing.{has, KnowsSkips, IsNotedThere, IsPassing, IsBefore, IsNeeded, IsStopped, IsFound, IsAtEnd, IsPassed}
 use Rattle.ix_receive.specs.Reception.{IsReceiving, IsReceived, IsWhole, reception_with}
-use Rattle.ix_receive.proofs.Lookup.{no-block}
+use Rattle.ix_known.proofs.Lists.{no-block}
 use Rattle.ix_receive.proofs.Received.{visits-first, none-at-first, stored-visited, received-stay, received-own, next-received, own-block, section-block}
 use Rattle.ix_receive.proofs.Expansions.{expanded-none}
 use Rattle.ix_receive.proofs.Traversing.{begins, visits-one, next-visit, steps, kept-block, grown-visits, grows, ends-visits, ends-count, ends-within, over}

@@ -16,7 +16,7 @@ use Rattle.ix_receive.specs.Receiving.{first_visits, AreReceived, IsNextSection}
 use Rattle.ix_receive.specs.Traversal.{visited}
 use Rattle.ix_receive.specs.Passing.{IsNeeded, IsNotFound, IsNotAtEnd}
 use Rattle.ix_receive.specs.Reception.{reception_with, IsNowhereNext, CantGoOn, IsRefused, IsRightlyRefused, IsUnfinished}
-use Rattle.ix_receive.proofs.Lookup.{has-block}
+use Rattle.ix_known.proofs.Lists.{has-block}
 use Rattle.ix_receive.proofs.Received.{stored-visited, received-stay, own-received}
 use Rattle.ix_receive.proofs.Receptions.{le_or, visited-more}
 

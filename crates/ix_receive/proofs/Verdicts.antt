@@ -12,9 +12,9 @@ use Rattle.ix_verdict.specs.declared.needed.Needed.TheVariants.{Nothing, Block}
 use Rattle.ix_verdict.specs.Needed.{needed_by, needed_of}
 use Rattle.ix_store.specs.Store.{Blocks, has_cid, block_of}
 use Rattle.ix_check.specs.Verdict.{verdict_of}
-use Rattle.ix_receive.specs.Traversal.{AreSound}
+use Rattle.ix_known.specs.Known.{AreSound}
 use Rattle.ix_receive.specs.Roots.{RootsPass}
-use Rattle.ix_receive.proofs.Lookup.{no-block}
+use Rattle.ix_known.proofs.Lists.{no-block}
 
 -- the verdict on a CID whose block isn't there
 pub verdict-missing : (sections : Blocks) (c : List ℕ) (h : HashFunction) → Block h ≡ needed_of (parts_of c) → has_cid sections c ≡ false → Missing ≡ verdict_of sections c

@@ -1,27 +1,14 @@
 -- The base of a receiver: blocks that it has already.
-use Rattle.std.specs.Prelude.{◌≡◌, ℕ, true, false, List, [], ◌++◌, map, Option, None, Some}
-use Rattle.std.specs.List.{AllByRecursion, Contains}
-use Rattle.std.specs.Borrow.{Bor}
-use Rattle.ix_verdict.specs.Verdict.{verdict_with, is_sound}
+use Rattle.std.specs.Prelude.{◌≡◌, ℕ, true, false, List, ◌++◌}
+use Rattle.std.specs.List.{Contains}
 use Rattle.ix_store.specs.Store.{Blocks, block_of}
 use Rattle.ix_walk.specs.JobMeaning.{JobMeaning}
 use Rattle.ix_walk.specs.Once.{cids_of}
 use Rattle.ix_walk.specs.Visits.{arrivals_of, is_over_limit}
-use Rattle.ix_car.specs.Archive.{is_known, difference_of}
-use Rattle.ix_car.specs.KnownPlaces.{knows, known_by}
+use Rattle.ix_car.specs.Archive.{is_known, difference_of, known_by}
+use Rattle.ix_known.specs.Known.{knows, known_blocks, AreSound}
 use Rattle.ix_car.specs.Laws.{once}
 use Rattle.ix_receive.specs.Own.{base_known, IsItsOwnWith}
-use Rattle.ix_receive.specs.Receiving.{sections_at}
-use Rattle.ix_receive.specs.Traversal.{AreSound}
-
--- the known blocks of a store: the first copy under each CID, if it is sound
-abbrev pub known_blocks : Blocks → Blocks
-known_blocks store = sections_at store (map (λ p. p.0) store)
-
--- the known blocks of a store, if there is one
-abbrev pub base_of : Option (Bor Blocks) → Blocks
-base_of None = []
-base_of (Some store) = known_blocks store.now
 
 -- the blocks of a base, and after them the sections that have come
 abbrev pub store_of : Blocks × Blocks → Blocks
@@ -33,7 +20,7 @@ HaveSound s = AreSound (store_of s)
 
 -- the known blocks of a store are sound by themselves, and their CIDs are those that are known to a receiver that has the store
 pub record AreKnown (store : Blocks) : Type 0 where
-  pub sound : AllByRecursion (λ p. is_sound (verdict_with p.0 (Some p.1)) ≡ true) (known_blocks store)
+  pub sound : AreSound (known_blocks store)
   pub same : (c : List ℕ) → is_known (base_known (known_blocks store)) c ≡ is_known (known_by store) c
 
 -- so they are for each store

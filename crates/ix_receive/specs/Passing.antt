@@ -18,7 +18,8 @@ use Rattle.ix_receive.specs.declared.fault.ReceiveFault.TheVariants.{Unsound, In
 use Rattle.ix_receive.specs.declared.traversal.Traversal.{Traversal}
 use Rattle.ix_receive.specs.declared.traversal.Skips.{Skips}
 use Rattle.ix_receive.specs.Missing.{lacks_block, is_unread}
-use Rattle.ix_receive.specs.Traversal.{AreSound, visited, expanded_by, IsTraversed, links_of}
+use Rattle.ix_receive.specs.Traversal.{visited, expanded_by, IsTraversed, links_of}
+use Rattle.ix_known.specs.Known.{AreSound}
 
 -- a set has a CID
 abbrev pub has : BTreeSet (List ℕ) → List ℕ → Bool

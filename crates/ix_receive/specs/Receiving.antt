@@ -10,7 +10,7 @@ use Rattle.ix_walk.specs.Arrivals.{Arrival}
 use Rattle.ix_walk.specs.Visits.{is_over_limit}
 use Rattle.ix_walk.specs.Once.{cids_of, first_ones, once_from, sound_value}
 use Rattle.ix_car.specs.Archive.{Known}
-use Rattle.ix_car.specs.KnownPlaces.{knows}
+use Rattle.ix_known.specs.Known.{knows}
 use Rattle.ix_car.specs.Restoring.{pair_with}
 use Rattle.ix_car.specs.Laws.{once}
 use Rattle.ix_receive.specs.Own.{base_known, AreTheirOwnWith}

@@ -20,10 +20,6 @@ use Rattle.ix_receive.specs.Receiving.{first_visits}
 abbrev pub as_pending : WaitingLink → PendingLink
 as_pending w = waiting w.residual w.depth w.cid
 
--- each section is sound by itself
-abbrev pub AreSound : Blocks → Type 0
-AreSound sections = AllByRecursion (λ p. is_sound (verdict_with p.0 (Some p.1)) ≡ true) sections
-
 -- what was expanded, by a set of CIDs with residuals
 abbrev pub expanded_by : BTreeSet (List ℕ × List Place) → Going
 expanded_by set c places = contains cid_order set (c, places)

@@ -1,9 +1,8 @@
 //! Laws of received archives.
 
 ghost use Rattle.ix_receive.specs.Own.{ArchiveIsItsOwn, OwnArchiveIsOfItsStore};
-ghost use Rattle.ix_receive.specs.Receiving.{NoneIsReceived, ReceivedStay, NextIsReceived};
+ghost use Rattle.ix_receive.specs.Receiving.{NoneIsReceived, ReceivedStay, NextIsReceived, ReceivedAreTheirOwn, OwnAreReceived};
 ghost use Rattle.ix_store.specs.Store.{Blocks};
-ghost use Rattle.ix_receive.specs.Receiving.{ReceivedAreTheirOwn, OwnAreReceived};
 ghost use Rattle.ix_receive.specs.Base.{KnownBlocksAreKnown, DifferenceIsItsOwn};
 
 use ix_car::law;

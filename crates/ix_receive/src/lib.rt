@@ -24,7 +24,6 @@
 //! archive is checked section by section, as it comes.
 #![tactic(auto)]
 
-mod base;
 mod counts;
 mod fault;
 pub mod law;

@@ -2,12 +2,12 @@
 
 ghost use Rattle.std.specs.Prelude.{◌≡◌, true, false, map, Some, IfOk, IfErr, OnOk, OnErr};
 ghost use Rattle.ix_verdict.specs.Verdict.{verdict_with};
-ghost use Rattle.ix_receive.specs.Base.{HaveSound, known_blocks, store_of};
+ghost use Rattle.ix_receive.specs.Base.{HaveSound, store_of};
+ghost use Rattle.ix_known.specs.Known.{known_blocks};
 ghost use Rattle.ix_receive.specs.Keeping.{kept_of};
 ghost use Rattle.ix_receive.specs.Roots.{RootsPass, IsRootRefused};
 ghost use Rattle.ix_receive.specs.Reception.{nothing_received, nothing_received_with, IsReceiving, IsReceived, Receives, reception_with, IsRefused, IsRightlyRefused, IsWhole, IsUnfinished};
 
-use crate::base::Base;
 use crate::counts::Counts;
 use crate::fault::ReceiveFault;
 use crate::passing::{advance_to, pass_all};
@@ -15,6 +15,7 @@ use crate::request::Request;
 use crate::sections::Sections;
 use crate::traversal::{Skips, Traversal, expand_link};
 use ix_cid::Cid;
+use ix_known::KnownBlocks;
 use ix_selector::law;
 use ix_store::{Store, verdict_on};
 use ix_verdict::{AllowMissing, Verdict};
@@ -128,7 +129,7 @@ impl<'s> Receiver<'s> {
     pub fn new(alloc: Global, job: &'s Job, allowed: AllowMissing) -> Receiver<'s>
         ensures { result ≡ nothing_received job.now allowed }
     {
-        Receiver::over(alloc, job, allowed, Base::none())
+        Receiver::over(alloc, job, allowed, KnownBlocks::none())
     }
 
     /// Creates a receiver that has a base: the blocks of a store whose first copy is sound. The archive is
@@ -141,16 +142,21 @@ impl<'s> Receiver<'s> {
     ) -> Receiver<'s>
         ensures { result ≡ nothing_received_with (known_blocks base.now) job.now allowed }
     {
-        Receiver::over(alloc, job, allowed, Base::of(base))
+        Receiver::over(alloc, job, allowed, KnownBlocks::of(base))
     }
 
     // Creates a receiver with a base.
-    fn over(alloc: Global, job: &'s Job, allowed: AllowMissing, base: Base<'s>) -> Receiver<'s>
+    fn over(
+        alloc: Global,
+        job: &'s Job,
+        allowed: AllowMissing,
+        base: KnownBlocks<'s>,
+    ) -> Receiver<'s>
         ensures { result ≡ nothing_received_with base.entry job.now allowed }
     {
         law::residual_is_the_rest();
         law::selector_is_one(job.selector());
-        base.is_sound();
+        base.are_sound();
         Receiver {
             asked: Request {
                 alloc,

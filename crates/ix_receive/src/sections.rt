@@ -9,10 +9,10 @@ ghost use Rattle.ix_receive.specs.Keeping.{kept_of};
 ghost use Rattle.ix_check.specs.Verdict.{verdict_of};
 ghost use Rattle.ix_receive.specs.Base.{HaveSound, store_of};
 
-use crate::base::Base;
 use ix_check::{History, verdict_in};
 use ix_cid::Cid;
 use ix_cid::code::DAG_CBOR;
+use ix_known::KnownBlocks;
 use ix_store::{Cursor, Store};
 use ix_verdict::{Needed, Verdict, bytes_needed};
 use ix_walk::read_block;
@@ -55,7 +55,7 @@ impl PastSection {
 // alone is kept, since its block has no links.
 pub(crate) struct Sections<'s> {
     // Of the blocks here, those of the base come first.
-    base: Base<'s>,
+    base: KnownBlocks<'s>,
     // The sections, those of leaves with no bytes.
     kept: Store,
     // The sections as they came, for contracts only.
@@ -95,7 +95,7 @@ fn kept_bytes<'a>(cid: &Cid, block: &'a [u8]) -> &'a [u8]
 
 impl<'s> Sections<'s> {
     // Creates the sections of an archive of which none has come.
-    pub(crate) fn new(alloc: Global, base: Base<'s>) -> Sections<'s>
+    pub(crate) fn new(alloc: Global, base: KnownBlocks<'s>) -> Sections<'s>
         ensures { result ≡ (base.entry, []) }
     {
         Sections {

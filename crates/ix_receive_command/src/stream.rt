@@ -11,10 +11,9 @@ use ix_own_archive::{
     ArchiveReason, Counts, ExpectedHeader, StreamFault, StreamLimits, StreamReason, StreamReceiver,
 };
 use ix_read_ahead::ReadAhead;
-use ix_sections::{CarKind, header_of, read_header, read_section};
+use ix_sections::{CarKind, Kind, header_of, kind_of, read_header, read_section};
 use ix_store::Store;
 use ix_verdict::AllowMissing;
-use ix_verify::{Kind, kind_of};
 use ix_walk::Job;
 use std::alloc::{AllocError, Global};
 use std::io::{self, ErrorKind, Read, Write};

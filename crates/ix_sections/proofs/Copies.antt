@@ -3,7 +3,7 @@ use Rattle.std.proofs.Common.{◌≡◌, ℕ, ◌-◌, ◌++◌, ◌<◌, ◌≤
 use Rattle.std.specs.Prelude.{Result, Ok, Err}
 use Rattle.std.proofs.lemmas.List.{map_push, take_all}
 use Rattle.ix_store.specs.Store.{Blocks, with_block, with_blocks}
-use Rattle.ix_store.specs.Sound.{AreSound, sound_copies, later_count}
+use Rattle.ix_store.specs.Sound.{AreSoundCopies, sound_copies, later_count}
 use Rattle.ix_store.proofs.Later.{none-later}
 use Rattle.ix_store.proofs.SoundFirst.{same-copies}
 use Rattle.ix_sections.specs.declared.fault.CarKind.{CarKind}
@@ -75,9 +75,9 @@ with_copies-sections store [] = refl
 with_copies-sections store (s ∷ sections) = with_copies-sections (with_block store (s.cid, s.block)) sections
 
 -- if each copy is sound, those that are preferred are the first
-pub preferred-first : (sections : List SectionMeaning) → AreSound (copies_of sections) → sound_copies (copies_of sections) ≡ with_sections [] sections
+pub preferred-first : (sections : List SectionMeaning) → AreSoundCopies (copies_of sections) → sound_copies (copies_of sections) ≡ with_sections [] sections
 preferred-first sections all = same-copies (copies_of sections) all ∙ with_copies-sections [] sections
 
 -- and none is a later one
-pub preferred-none-later : (sections : List SectionMeaning) → AreSound (copies_of sections) → later_count (copies_of sections) ≡ 0
+pub preferred-none-later : (sections : List SectionMeaning) → AreSoundCopies (copies_of sections) → later_count (copies_of sections) ≡ 0
 preferred-none-later sections all = none-later (copies_of sections) all

@@ -5,3 +5,4 @@ pub mod SectionCids
 pub mod SectionLists
 pub mod HeaderParts
 pub mod Copies
+pub mod ReadFiles

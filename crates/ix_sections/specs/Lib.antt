@@ -9,3 +9,6 @@ pub mod Writing
 pub mod FaultWords
 pub mod Examples
 pub mod Standing
+pub mod Files
+pub mod Loader
+pub mod Kinds

@@ -2,7 +2,7 @@
 
 ghost use Rattle.std.specs.Prelude.{◌≡◌, ℕ, List, []};
 ghost use Rattle.ix_store.specs.Store.{Blocks};
-ghost use Rattle.ix_store.specs.Sound.{AreSound, sound_copies, later_count};
+ghost use Rattle.ix_store.specs.Sound.{AreSoundCopies, sound_copies, later_count};
 ghost use Rattle.ix_sections.specs.Copies.{copies_of};
 ghost use Rattle.ix_sections.specs.Reading.{blocks_after, blocks_of};
 ghost use Rattle.ix_sections.specs.Sections.{section_list, SectionMeaning, first_of_each, with_first_of_each, with_sections};
@@ -22,8 +22,8 @@ pub fn blocks_of_files_are_end_to_end()
 /// States that preferring sound copies changes nothing if each copy is sound: the blocks are those of the
 /// sections, the first of each CID, and none is a later copy.
 pub fn sound_copies_are_the_first_if_all_are_sound()
-    ensures same { (sections : List SectionMeaning) → AreSound (copies_of sections)
+    ensures same { (sections : List SectionMeaning) → AreSoundCopies (copies_of sections)
         → sound_copies (copies_of sections) ≡ with_sections [] sections }
-    ensures none_later { (sections : List SectionMeaning) → AreSound (copies_of sections)
+    ensures none_later { (sections : List SectionMeaning) → AreSoundCopies (copies_of sections)
         → later_count (copies_of sections) ≡ 0 }
 {}

@@ -8,7 +8,7 @@ use Rattle.std.proofs.lemmas.List.Elements.{filter-append, filter_passes}
 use Rattle.std.proofs.lemmas.Option.{slice_get-get_or}
 use Rattle.std.proofs.lemmas.Slice.Eq.{bytes_eq-Decides}
 use Rattle.ix_store.specs.Store.{Blocks, has_cid, with_block, with_blocks}
-use Rattle.ix_store.specs.Sound.{is_sound, is_unsound, first_copies, sound_copies, unsound_count, AreSound, later_count}
+use Rattle.ix_store.specs.Sound.{is_sound_copy, is_unsound_copy, first_copies, sound_copies, unsound_count, AreSoundCopies, later_count}
 use Rattle.ix_store.proofs.Stores.{has_cid-at}
 use Rattle.ix_store.proofs.SoundFirst.{same-copies}
 
@@ -188,10 +188,10 @@ filter-split f g (e ∷ es) =
 
 module _ (pairs : Blocks) where
   abbrev sound : Blocks
-  sound = filter is_sound pairs
+  sound = filter is_sound_copy pairs
 
   abbrev unsound : Blocks
-  unsound = filter is_unsound pairs
+  unsound = filter is_unsound_copy pairs
 
   -- no copy of a CID is sound
   abbrev lacks : List ℕ → Bool
@@ -201,12 +201,12 @@ module _ (pairs : Blocks) where
   lacking p = lacks p.0
 
   -- a sound pair has its CID among the sound ones
-  sound-there : (ps : Blocks) (k : ℕ) (d : List ℕ × List ℕ) → k < length ps → is_sound (get_or ps k d) ≡ true → has_cid (filter is_sound ps) (get_or ps k d).0 ≡ true
+  sound-there : (ps : Blocks) (k : ℕ) (d : List ℕ × List ℕ) → k < length ps → is_sound_copy (get_or ps k d) ≡ true → has_cid (filter is_sound_copy ps) (get_or ps k d).0 ≡ true
   sound-there [] k d less is = absurd (omega (arith, less))
-  sound-there (p ∷ ps) zero d less is = ap (λ b. has_cid (cond b (p ∷ filter is_sound ps) (filter is_sound ps)) p.0) is ∙ ap (λ b. b || has_cid (filter is_sound ps) p.0) ((bytes_eq-Decides p.0 p.0).1 refl)
+  sound-there (p ∷ ps) zero d less is = ap (λ b. has_cid (cond b (p ∷ filter is_sound_copy ps) (filter is_sound_copy ps)) p.0) is ∙ ap (λ b. b || has_cid (filter is_sound_copy ps) p.0) ((bytes_eq-Decides p.0 p.0).1 refl)
   sound-there (p ∷ ps) (suc k) d less is =
       let rest = sound-there ps k d (omega (arith, less)) is in
-      elim (is_sound p) as (λ b. has_cid (cond b (p ∷ filter is_sound ps) (filter is_sound ps)) (get_or ps k d).0 ≡ true) [
+      elim (is_sound_copy p) as (λ b. has_cid (cond b (p ∷ filter is_sound_copy ps) (filter is_sound_copy ps)) (get_or ps k d).0 ≡ true) [
         | true ↦ ap (λ b. bytes_eq p.0 (get_or ps k d).0 || b) rest ∙ either (bytes_eq p.0 (get_or ps k d).0)
         | false ↦ rest
       ] where
@@ -215,18 +215,18 @@ module _ (pairs : Blocks) where
         either false = refl
 
   -- the pairs without a sound copy are among those that aren't sound
-  lacking-unsound : (ps : Blocks) → All (λ p. is_sound p ≡ true → lacking p ≡ false) ps → filter lacking ps ≡ filter lacking (filter is_unsound ps)
+  lacking-unsound : (ps : Blocks) → All (λ p. is_sound_copy p ≡ true → lacking p ≡ false) ps → filter lacking ps ≡ filter lacking (filter is_unsound_copy ps)
   lacking-unsound [] all = refl
   lacking-unsound (p ∷ ps) all =
       let rest = lacking-unsound ps (λ k d less. all (suc k) d (omega (arith, less))) in
       ⊎_elim
-      (λ (pass : is_sound p ≡ true).
+      (λ (pass : is_sound_copy p ≡ true).
       ap (λ b. cond b (p ∷ filter lacking ps) (filter lacking ps)) (all 0 p (omega arith) pass) ∙ rest
-      ∙ ap (λ b. filter lacking (cond (not b) (p ∷ filter is_unsound ps) (filter is_unsound ps))) (sym pass))
-      (λ (fail : is_sound p ≡ false).
+      ∙ ap (λ b. filter lacking (cond (not b) (p ∷ filter is_unsound_copy ps) (filter is_unsound_copy ps))) (sym pass))
+      (λ (fail : is_sound_copy p ≡ false).
       ap (λ (l : Blocks). cond (lacking p) (p ∷ l) l) rest
-      ∙ ap (λ b. filter lacking (cond (not b) (p ∷ filter is_unsound ps) (filter is_unsound ps))) (sym fail))
-      (cases_Bool (is_sound p))
+      ∙ ap (λ b. filter lacking (cond (not b) (p ∷ filter is_unsound_copy ps) (filter is_unsound_copy ps))) (sym fail))
+      (cases_Bool (is_sound_copy p))
 
   -- of the first copies, those without a sound one
   lacking-first : filter lacking (first_copies pairs) ≡ with_blocks [] (filter lacking unsound)
@@ -249,28 +249,28 @@ module _ (pairs : Blocks) where
       ∙ ap (with_blocks []) (filter-append lacking sound unsound ∙ ap (λ (l : Blocks). l ++ filter lacking unsound) (none-lacks sound sound-lacks))
 
   -- these are those that aren't sound
-  unsound-preferred : filter is_unsound (sound_copies pairs) ≡ filter lacking (sound_copies pairs)
+  unsound-preferred : filter is_unsound_copy (sound_copies pairs) ≡ filter lacking (sound_copies pairs)
   unsound-preferred =
-      let front : Agrees is_unsound lacking (with_blocks [] sound) =
-      agrees-many is_unsound lacking [] sound (λ k d less. ap not (filter_passes is_sound pairs k d less) ∙ sym (sound-lacks k d less)) refl in
-      let rear : Agrees is_unsound lacking (with_blocks (with_blocks [] sound) unsound) =
-      agrees-new is_unsound lacking (with_blocks [] sound) unsound
+      let front : Agrees is_unsound_copy lacking (with_blocks [] sound) =
+      agrees-many is_unsound_copy lacking [] sound (λ k d less. ap not (filter_passes is_sound_copy pairs k d less) ∙ sym (sound-lacks k d less)) refl in
+      let rear : Agrees is_unsound_copy lacking (with_blocks (with_blocks [] sound) unsound) =
+      agrees-new is_unsound_copy lacking (with_blocks [] sound) unsound
       (λ p fail new. ap not (false_from_ne_true (has_cid sound p.0) (λ held. false≢true (sym new ∙ has_cid-added_many [] sound p.0 held))))
-      (filter_passes is_unsound pairs) front in
-      subst (λ (l : Blocks). Agrees is_unsound lacking l) (sym (with_blocks-append [] sound unsound)) rear
+      (filter_passes is_unsound_copy pairs) front in
+      subst (λ (l : Blocks). Agrees is_unsound_copy lacking l) (sym (with_blocks-append [] sound unsound)) rear
 
   -- so the blocks that are a later copy are those that make the difference
   pub later-difference : unsound_count (first_copies pairs) - unsound_count (sound_copies pairs) ≡ later_count pairs
   later-difference =
       let firsts = first_copies pairs in
-      let same : filter lacking firsts ≡ filter is_unsound (sound_copies pairs) = lacking-first ∙ sym lacking-preferred ∙ sym unsound-preferred in
-      let rest : length (filter (λ p. is_unsound p && lacking p) firsts) ≡ unsound_count (sound_copies pairs) =
-      ap length (filter-both is_unsound lacking firsts ∙ ap (filter is_unsound) same ∙ filter-twice is_unsound (sound_copies pairs)) in
-      let split : unsound_count firsts ≡ later_count pairs + length (filter (λ p. is_unsound p && lacking p) firsts) = filter-split is_unsound (λ p. has_cid sound p.0) firsts in
+      let same : filter lacking firsts ≡ filter is_unsound_copy (sound_copies pairs) = lacking-first ∙ sym lacking-preferred ∙ sym unsound-preferred in
+      let rest : length (filter (λ p. is_unsound_copy p && lacking p) firsts) ≡ unsound_count (sound_copies pairs) =
+      ap length (filter-both is_unsound_copy lacking firsts ∙ ap (filter is_unsound_copy) same ∙ filter-twice is_unsound_copy (sound_copies pairs)) in
+      let split : unsound_count firsts ≡ later_count pairs + length (filter (λ p. is_unsound_copy p && lacking p) firsts) = filter-split is_unsound_copy (λ p. has_cid sound p.0) firsts in
       omega (arith, rest, split)
 
   -- none is if each copy is sound
-  pub none-later : AreSound pairs → later_count pairs ≡ 0
+  pub none-later : AreSoundCopies pairs → later_count pairs ≡ 0
   none-later all =
       let same = ap unsound_count (same-copies pairs all) in
       omega (arith, same, later-difference)

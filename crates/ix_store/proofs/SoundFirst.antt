@@ -9,7 +9,7 @@ use mathlib.Core.Bool.{beq}
 use Rattle.ix_verdict.specs.declared.verdict.Verdict.{Verdict}
 use Rattle.ix_verdict.specs.Verdict.{passes}
 use Rattle.ix_store.specs.Store.{Blocks, has_cid, with_block, with_blocks}
-use Rattle.ix_store.specs.Sound.{verdict_of, is_sound, is_unsound, sound_first, first_copies, sound_copies, unsound_count, AreSound, fails, picked, is_picked, passing_first}
+use Rattle.ix_store.specs.Sound.{verdict_of, is_sound_copy, is_unsound_copy, sound_first, first_copies, sound_copies, unsound_count, AreSoundCopies, fails, picked, is_picked, passing_first}
 
 -- ---- picking
 
@@ -84,7 +84,7 @@ picked-filter test (p ∷ pairs) =
 pub sorted-sound : (pairs : Blocks) → passing_first (map verdict_of pairs) pairs ≡ sound_first pairs
 sorted-sound pairs =
     ap (λ (l : Blocks). l ++ picked (is_picked false) (map verdict_of pairs) pairs) (picked-filter (is_picked true) pairs)
-    ∙ ap (λ (l : Blocks). filter is_sound pairs ++ l) (picked-filter (is_picked false) pairs)
+    ∙ ap (λ (l : Blocks). filter is_sound_copy pairs ++ l) (picked-filter (is_picked false) pairs)
 
 -- and so do the verdicts on them
 pub sorted-verdicts : (pairs : Blocks) → passing_first (map verdict_of pairs) (map verdict_of pairs) ≡ map verdict_of (sound_first pairs)
@@ -96,7 +96,7 @@ sorted-verdicts pairs = sym (map-passing_first verdict_of (map verdict_of pairs)
 pub count-verdicts : (pairs : Blocks) → length (filter fails (map verdict_of pairs)) ≡ unsound_count pairs
 count-verdicts [] = refl
 count-verdicts (p ∷ pairs) =
-    elim (passes (verdict_of p)) as (λ b. length (cond (not b) (verdict_of p ∷ filter fails (map verdict_of pairs)) (filter fails (map verdict_of pairs))) ≡ length (cond (not b) (p ∷ filter is_unsound pairs) (filter is_unsound pairs))) [
+    elim (passes (verdict_of p)) as (λ b. length (cond (not b) (verdict_of p ∷ filter fails (map verdict_of pairs)) (filter fails (map verdict_of pairs))) ≡ length (cond (not b) (p ∷ filter is_unsound_copy pairs) (filter is_unsound_copy pairs))) [
       | true ↦ count-verdicts pairs
       | false ↦ ap suc (count-verdicts pairs)
     ]
@@ -106,7 +106,7 @@ count-push : (store : Blocks) (p : List ℕ × List ℕ) → unsound_count (stor
 count-push [] p = omega arith
 count-push (q ∷ store) p =
     let rest = count-push store p in
-    elim (is_unsound q) as (λ b. length (cond b (q ∷ filter is_unsound (store ++ p ∷ [])) (filter is_unsound (store ++ p ∷ []))) ≤ length (cond b (q ∷ filter is_unsound store) (filter is_unsound store)) + unsound_count (p ∷ [])) [
+    elim (is_unsound_copy q) as (λ b. length (cond b (q ∷ filter is_unsound_copy (store ++ p ∷ [])) (filter is_unsound_copy (store ++ p ∷ []))) ≤ length (cond b (q ∷ filter is_unsound_copy store) (filter is_unsound_copy store)) + unsound_count (p ∷ [])) [
       | true ↦ omega (arith, rest)
       | false ↦ rest
     ]
@@ -126,7 +126,7 @@ count-many store (p ∷ ps) =
     let rest = count-many (with_block store p) ps in
     let one = count-with store p in
     let both : unsound_count (p ∷ ps) ≡ unsound_count (p ∷ []) + unsound_count ps =
-    elim (is_unsound p) as (λ b. length (cond b (p ∷ filter is_unsound ps) (filter is_unsound ps)) ≡ length (cond b (p ∷ []) []) + unsound_count ps) [ true ↦ omega arith | false ↦ omega arith ] in
+    elim (is_unsound_copy p) as (λ b. length (cond b (p ∷ filter is_unsound_copy ps) (filter is_unsound_copy ps)) ≡ length (cond b (p ∷ []) []) + unsound_count ps) [ true ↦ omega arith | false ↦ omega arith ] in
     omega (arith, rest, one, both)
 
 -- if each copy is sound, so is each first one
@@ -138,25 +138,25 @@ none-unsound pairs none =
 -- ---- the law
 
 -- if all are sound, each is kept
-all-kept : (pairs : Blocks) → AreSound pairs → filter is_sound pairs ≡ pairs
+all-kept : (pairs : Blocks) → AreSoundCopies pairs → filter is_sound_copy pairs ≡ pairs
 all-kept [] all = refl
 all-kept (p ∷ pairs) all =
-    ap (λ (b : Bool). cond b (p ∷ filter is_sound pairs) (filter is_sound pairs)) (all 0 p (omega arith))
+    ap (λ (b : Bool). cond b (p ∷ filter is_sound_copy pairs) (filter is_sound_copy pairs)) (all 0 p (omega arith))
     ∙ ap (λ (l : Blocks). p ∷ l) (all-kept pairs (λ k d less. all (suc k) d (omega (arith, less))))
 
 -- and none is left
-none-left : (pairs : Blocks) → AreSound pairs → filter is_unsound pairs ≡ []
+none-left : (pairs : Blocks) → AreSoundCopies pairs → filter is_unsound_copy pairs ≡ []
 none-left [] all = refl
 none-left (p ∷ pairs) all =
-    ap (λ (b : Bool). cond (not b) (p ∷ filter is_unsound pairs) (filter is_unsound pairs)) (all 0 p (omega arith))
+    ap (λ (b : Bool). cond (not b) (p ∷ filter is_unsound_copy pairs) (filter is_unsound_copy pairs)) (all 0 p (omega arith))
     ∙ none-left pairs (λ k d less. all (suc k) d (omega (arith, less)))
 
 -- pairs that are all sound stay as they are
-pub sorted-all : (pairs : Blocks) → AreSound pairs → sound_first pairs ≡ pairs
-sorted-all pairs all = ap (λ (l : Blocks). l ++ filter is_unsound pairs) (all-kept pairs all) ∙ ap (λ (l : Blocks). pairs ++ l) (none-left pairs all) ∙ append-nil pairs
+pub sorted-all : (pairs : Blocks) → AreSoundCopies pairs → sound_first pairs ≡ pairs
+sorted-all pairs all = ap (λ (l : Blocks). l ++ filter is_unsound_copy pairs) (all-kept pairs all) ∙ ap (λ (l : Blocks). pairs ++ l) (none-left pairs all) ∙ append-nil pairs
 
 -- so they have the same first copies
-pub same-copies : (pairs : Blocks) → AreSound pairs → sound_copies pairs ≡ first_copies pairs
+pub same-copies : (pairs : Blocks) → AreSoundCopies pairs → sound_copies pairs ≡ first_copies pairs
 same-copies pairs all = ap first_copies (sorted-all pairs all)
 
 -- ---- the loop that picks

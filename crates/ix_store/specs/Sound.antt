@@ -20,15 +20,15 @@ verdict_of p = verdict_with p.0 (Some p.1)
 
 -- A traversal continues below the pair. The verdict on an identity CID, or on one with an unknown codec or hash function, is
 -- the same for each block under it.
-abbrev pub is_sound : List ℕ × List ℕ → Bool
-is_sound p = passes (verdict_of p)
+abbrev pub is_sound_copy : List ℕ × List ℕ → Bool
+is_sound_copy p = passes (verdict_of p)
 
-abbrev pub is_unsound : List ℕ × List ℕ → Bool
-is_unsound p = not (is_sound p)
+abbrev pub is_unsound_copy : List ℕ × List ℕ → Bool
+is_unsound_copy p = not (is_sound_copy p)
 
 -- the sound pairs, and after them the others, each in their order
 abbrev pub sound_first : Blocks → Blocks
-sound_first pairs = filter is_sound pairs ++ filter is_unsound pairs
+sound_first pairs = filter is_sound_copy pairs ++ filter is_unsound_copy pairs
 
 -- the first pair of each CID
 abbrev pub first_copies : Blocks → Blocks
@@ -40,19 +40,19 @@ sound_copies pairs = first_copies (sound_first pairs)
 
 -- how many pairs aren't sound
 abbrev pub unsound_count : Blocks → ℕ
-unsound_count pairs = length (filter is_unsound pairs)
+unsound_count pairs = length (filter is_unsound_copy pairs)
 
 -- a pair isn't sound, and another copy is
 abbrev pub is_mended : Blocks → List ℕ × List ℕ → Bool
-is_mended pairs p = is_unsound p && has_cid (filter is_sound pairs) p.0
+is_mended pairs p = is_unsound_copy p && has_cid (filter is_sound_copy pairs) p.0
 
 -- how many blocks are a later copy: those whose first copy isn't sound, and another is
 abbrev pub later_count : Blocks → ℕ
 later_count pairs = length (filter (is_mended pairs) (first_copies pairs))
 
 -- each of the pairs is sound
-abbrev pub AreSound : Blocks → Type 0
-AreSound pairs = All (λ p. is_sound p ≡ true) pairs
+abbrev pub AreSoundCopies : Blocks → Type 0
+AreSoundCopies pairs = All (λ p. is_sound_copy p ≡ true) pairs
 
 -- ---- a builder that keeps all copies
 

@@ -3,7 +3,7 @@ use Rattle.std.proofs.Common.{◌≡◌, ℕ, ◌<◌, ◌^◌, Bool, true, fals
 use Rattle.std.specs.Prelude.{Option, Some, Result, Ok, Err, All, if◌then◌else◌, bytes_eq}
 use Rattle.ix_cid.proofs.Results.{ok_same}
 use Rattle.ix_store.specs.Store.{Blocks, with_block, with_blocks, block_of}
-use Rattle.ix_store.specs.Sound.{AreSound, first_copies}
+use Rattle.ix_store.specs.Sound.{AreSoundCopies, first_copies}
 use Rattle.ix_store.specs.declared.places.PlaceSet.{PlaceSet}
 use Rattle.ix_walk.specs.JobMeaning.{JobMeaning}
 use Rattle.ix_check.specs.Verdict.{verdict_with}
@@ -13,11 +13,11 @@ use Rattle.ix_sections.specs.Reading.{Fault, ◌>>=◌, blocks_after}
 use Rattle.ix_sections.specs.Sections.{SectionMeaning, section_list, roots_of, with_sections, with_first_of_each}
 use Rattle.ix_sections.proofs.SectionLists.{blocks-after_sections}
 use Rattle.ix_car.specs.declared.sink.End.TheVariants.{Done}
-use Rattle.ix_car.specs.Archive.{Known, known_at, new_sections, difference_of}
+use Rattle.ix_car.specs.Archive.{Known, known_at, new_sections, difference_of, known_by}
 use Rattle.ix_verdict.specs.Verdict.{is_sound}
 use Rattle.ix_car.specs.ArchiveMeaning.{ArchiveMeaning, HasArchived, calls_of}
 use Rattle.ix_car.specs.Faithful.{IsFaithful}
-use Rattle.ix_car.specs.KnownPlaces.{knows, known_by, IsKnownIn}
+use Rattle.ix_known.specs.Known.{knows, IsKnownIn}
 use Rattle.ix_car.specs.Restoring.{difference_pairs, AgreesWith, IsWithoutSkips, IsRestoredBy}
 use Rattle.ix_car.specs.Verified.{verified}
 use Rattle.ix_car.proofs.Archives.{archive-whole}
@@ -153,7 +153,7 @@ module _ (store base : Blocks) (files : List (List ℕ)) (number : ℕ) (job : J
     )
 
     -- the law `FilesThenDifferenceRestore`
-    pub files-then_difference : AreSound base → IsRestoredByFiles store number job (files ++ difference_of (known_by base) store number job ∷ [])
+    pub files-then_difference : AreSoundCopies base → IsRestoredByFiles store number job (files ++ difference_of (known_by base) store number job ∷ [])
     files-then_difference sound = (
       first_copies (copies ++ pairs),
       files-after [] files (difference_of (known_by base) store number job ∷ [])
@@ -161,7 +161,7 @@ module _ (store base : Blocks) (files : List (List ℕ)) (number : ℕ) (job : J
           ∙ ap (λ r. r >>= (λ more. blocks_after_all more [])) (difference-added (first_copies copies))
           ∙ ap (λ (b : Blocks). Ok b) (blocks-both [] copies pairs),
       subst (λ (k : Known). IsRestoredBy store number job (first_copies (copies ++ difference_pairs k store number job))) (sym known-same)
-          (base-first store copies number job (subst AreSound base-copies sound) agrees-same done),
+          (base-first store copies number job (subst AreSoundCopies base-copies sound) agrees-same done),
     )
 
 -- ---- what was written

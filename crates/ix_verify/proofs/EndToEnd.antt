@@ -2,11 +2,11 @@
 use Rattle.std.proofs.Common.{◌≡◌, List, [], ◌∷◌, ◌++◌, refl, sym, ap, ◌∙◌, append-nil, append_assoc}
 use Rattle.std.specs.Prelude.{flat_map}
 use Rattle.ix_store.specs.Store.{Blocks, with_block}
-use Rattle.ix_store.specs.Sound.{AreSound}
+use Rattle.ix_store.specs.Sound.{AreSoundCopies}
 use Rattle.ix_sections.specs.Copies.{copy_of, copies_of}
 use Rattle.ix_sections.specs.Sections.{SectionMeaning, with_sections}
 use Rattle.ix_sections.proofs.Copies.{preferred-first, preferred-none-later}
-use Rattle.ix_verify.specs.declared.found.Copies.TheVariants.{First, Sound}
+use Rattle.ix_sections.specs.declared.files.loader.Copies.TheVariants.{First, Sound}
 use Rattle.ix_verify.specs.Beside.{with_copies_in}
 use Rattle.ix_verify.specs.Found.{with_files, copies_in, store_of, later_of}
 
@@ -34,8 +34,8 @@ copies-end copies (sections ∷ files) =
     ∙ ap (λ (l : Blocks). copies ++ l) (sym (copies-both sections (flat_map (λ more. more) files)))
 
 -- if all copies are sound, the first are preferred, and no block is a later copy
-pub sound-first : (files : List (List SectionMeaning)) → AreSound (copies_in files) → store_of Sound files ≡ store_of First files
+pub sound-first : (files : List (List SectionMeaning)) → AreSoundCopies (copies_in files) → store_of Sound files ≡ store_of First files
 sound-first files all = preferred-first (flat_map (λ sections. sections) files) all ∙ sym (files-end [] files)
 
-pub sound-none_later : (files : List (List SectionMeaning)) → AreSound (copies_in files) → later_of Sound files ≡ 0
+pub sound-none_later : (files : List (List SectionMeaning)) → AreSoundCopies (copies_in files) → later_of Sound files ≡ 0
 sound-none_later files all = preferred-none-later (flat_map (λ sections. sections) files) all

@@ -13,8 +13,8 @@ use Rattle.ix_sections.proofs.Sections.{FailsAs-along}
 use Rattle.ix_sections.proofs.SectionLists.{blocks-after_sections}
 use Rattle.ix_verify.specs.declared.noted.Noted.{Noted}
 use Rattle.ix_verdict.specs.declared.allow_missing.AllowMissing.{AllowMissing}
-use Rattle.ix_verify.specs.declared.found.Copies.{Copies}
-use Rattle.ix_verify.specs.declared.found.Copies.TheVariants.{First, Sound}
+use Rattle.ix_sections.specs.declared.files.loader.Copies.{Copies}
+use Rattle.ix_sections.specs.declared.files.loader.Copies.TheVariants.{First, Sound}
 use Rattle.ix_verify.specs.Beside.{sections_read, IsRead, blocks_beside, with_copies_in}
 use Rattle.ix_verify.specs.Found.{with_files, copies_in, store_of, later_of, IsReached}
 use Rattle.ix_verify.proofs.EndToEnd.{copies-end}

@@ -8,8 +8,8 @@ use Rattle.ix_sections.specs.Sections.{SectionMeaning, section_list, roots_of}
 use Rattle.ix_verify.specs.declared.file.Judged.{Judged}
 use Rattle.ix_verify.specs.declared.reach.Reached.{Reached}
 use Rattle.ix_verdict.specs.declared.allow_missing.AllowMissing.{AllowMissing}
-use Rattle.ix_verify.specs.declared.found.Copies.{Copies}
-use Rattle.ix_verify.specs.declared.found.Copies.TheVariants.{First}
+use Rattle.ix_sections.specs.declared.files.loader.Copies.{Copies}
+use Rattle.ix_sections.specs.declared.files.loader.Copies.TheVariants.{First}
 use Rattle.ix_verify.specs.declared.found.Findings.{Findings}
 use Rattle.ix_verify.specs.declared.found.Scope.TheVariants.{Sections as OfSections, Graph as OfGraph}
 use Rattle.ix_verify.specs.Beside.{blocks_beside}

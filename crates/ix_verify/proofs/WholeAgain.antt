@@ -21,7 +21,7 @@ use Rattle.ix_store.specs.Store.{Blocks, has_cid, with_block, block_of, bytes_by
 use Rattle.ix_walk.specs.JobMeaning.{JobMeaning}
 use Rattle.ix_walk.specs.Arrivals.{Arrival, Inside, when_some}
 use Rattle.ix_walk.specs.Visits.{arrivals_of, visit_of, visits_from, is_over_limit}
-use Rattle.ix_walk.specs.Once.{links_below, roots_from, was_expanded, expanded_at, expanded_after, once, is_sound_by, sound_value}
+use Rattle.ix_walk.specs.Once.{links_below, roots_from, was_expanded, expanded_at, expanded_after, once, bytes_match_by, sound_value}
 use Rattle.ix_walk.proofs.Links.{all-weaker, all-both}
 use Rattle.ix_check.specs.Verdict.{has_codec, is_no_data, verdict_under, verdict_by, verdict_of, passes}
 use Rattle.ix_verdict.specs.declared.verdict.Verdict.{Verdict}
@@ -178,7 +178,7 @@ abbrev verdict_by_codec : Option HashFunction → List ℕ → Option (List ℕ)
 verdict_by_codec f c o = if has_codec c then verdict_by f c o else Codec
 
 abbrev value_by : Option HashFunction → List ℕ → Option (List ℕ) → Option Data
-value_by f c o = if is_sound_by f (digest_of c) o then (if is_dag_cbor c then option_and_then data_at (bytes_by f (digest_of c) o) else None) else None
+value_by f c o = if bytes_match_by f (digest_of c) o then (if is_dag_cbor c then option_and_then data_at (bytes_by f (digest_of c) o) else None) else None
 
 -- verdict and value are the same
 abbrev IsSame : Option HashFunction → List ℕ → Option (List ℕ) → Option (List ℕ) → Type 0

@@ -4,7 +4,7 @@ use Rattle.ix_store.specs.Store.{Blocks}
 use Rattle.ix_sections.specs.Reading.{Fault}
 use Rattle.ix_sections.specs.Sections.{SectionMeaning}
 use Rattle.ix_sections.specs.Copies.{copies_of}
-use Rattle.ix_verify.specs.declared.found.Copies.{Copies}
+use Rattle.ix_sections.specs.declared.files.loader.Copies.{Copies}
 use Rattle.ix_verify.specs.Found.{store_of, later_of}
 
 -- the sections that were read; none of a file that is rejected

@@ -24,8 +24,8 @@ use Rattle.ix_verify.specs.Noting.{IsNoted}
 use Rattle.ix_verify.specs.declared.noted.Noted.{Noted}
 use Rattle.ix_verify.specs.declared.found.Scope.{Scope}
 use Rattle.ix_verify.specs.declared.found.Scope.TheVariants.{Sections as OfSections, Graph as OfGraph}
-use Rattle.ix_verify.specs.declared.found.Copies.{Copies}
-use Rattle.ix_verify.specs.declared.found.Copies.TheVariants.{First, Sound}
+use Rattle.ix_sections.specs.declared.files.loader.Copies.{Copies}
+use Rattle.ix_sections.specs.declared.files.loader.Copies.TheVariants.{First, Sound}
 use Rattle.ix_verify.specs.declared.found.Outcome.{Outcome}
 use Rattle.ix_verify.specs.declared.found.Outcome.TheVariants.{Sound as SoundFile}
 use Rattle.ix_verdict.specs.declared.allow_missing.AllowMissing.{AllowMissing}
@@ -132,8 +132,8 @@ abbrev pub IsFileFault : List ℕ → CarFault → Type 0
 IsFileFault b e = IsFaultOf b e (section_list b)
 
 -- no section is unsound, nothing is skipped, and no walk ends at its limit
-abbrev pub is_sound_file : Findings → Bool
-is_sound_file f = (f.unsound.count == 0) && ((f.skips.count == 0) && not f.is_over_limit)
+abbrev pub is_whole : Findings → Bool
+is_whole f = (f.unsound.count == 0) && ((f.skips.count == 0) && not f.is_over_limit)
 
 -- the outcome of a file: the worst that its findings make of it
 abbrev pub outcome_of : Findings → Outcome
@@ -141,7 +141,7 @@ outcome_of f = worse f.unsound.worst (worse f.skips.worst (outcome_at_limit f.is
 
 -- a file is sound: nothing is found of it, and so its outcome is the best
 abbrev pub IsCalledSound : Findings → Type 0
-IsCalledSound f = (is_sound_file f ≡ true) × (outcome_of f ≡ SoundFile)
+IsCalledSound f = (is_whole f ≡ true) × (outcome_of f ≡ SoundFile)
 
 -- whatever is found of a file of which the sections alone are verified, it is sound
 abbrev pub HasSoundSections : List ℕ → Type 0

@@ -6,7 +6,7 @@ use Rattle.ix_cid.specs.declared.hash_function.HashFunction.TheVariants.{Identit
 use Rattle.ix_selector.specs.Pattern.{Pattern, everything}
 use Rattle.ix_walk.specs.JobMeaning.{JobMeaning}
 use Rattle.ix_store.specs.Store.{Blocks, block_of}
-use Rattle.ix_store.specs.Sound.{AreSound}
+use Rattle.ix_store.specs.Sound.{AreSoundCopies}
 use Rattle.ix_store.specs.declared.places.PlaceSet.{PlaceSet}
 use Rattle.ix_walk.specs.Visits.{is_over_limit}
 use Rattle.ix_walk.specs.Once.{first_ones}
@@ -15,17 +15,17 @@ use Rattle.ix_verdict.specs.declared.verdict.Verdict.TheVariants.{Codec, Sound}
 use Rattle.ix_verdict.specs.Verdict.{digest_by, has_codec}
 use Rattle.ix_car.specs.declared.sink.Delivery.{Delivery}
 use Rattle.ix_car.specs.declared.sink.End.TheVariants.{Done}
-use Rattle.ix_car.specs.Archive.{Known, known_at, sections_of, archive_with, difference_of, archive_of}
+use Rattle.ix_car.specs.Archive.{Known, known_at, sections_of, archive_with, difference_of, archive_of, known_by}
 use Rattle.ix_car.specs.ArchiveMeaning.{ArchiveMeaning, HasArchived, calls_of}
 use Rattle.ix_car.specs.Faithful.{IsFaithful}
-use Rattle.ix_car.specs.KnownPlaces.{known_by, IsKnownIn}
+use Rattle.ix_known.specs.Known.{IsKnownIn}
 use Rattle.ix_car.specs.Report.{skips_of}
 use Rattle.ix_car.specs.Restoring.{difference_pairs, AgreesWith, IsWithoutSkips}
 use Rattle.ix_car.specs.Verified.{verified, judged_visits}
 use Rattle.ix_sections.specs.Writing.{header_of}
 use Rattle.ix_sections.specs.Sections.{SectionMeaning, section_list, roots_of, with_sections}
 use Rattle.ix_verify.specs.Judged.{section_verdict, IsSoundSection}
-use Rattle.ix_verify.specs.declared.found.Copies.TheVariants.{First, Sound as FirstSound}
+use Rattle.ix_sections.specs.declared.files.loader.Copies.TheVariants.{First, Sound as FirstSound}
 use Rattle.ix_verify.specs.Found.{with_files, copies_in, store_of, later_of, job_below, verified_job, HasSoundSections, IsSoundFile, IsSoundFileFor}
 use Rattle.ix_verify.specs.Restored.{HasReadableDifference, AreReadAs, IsRestoredByFiles}
 use Rattle.ix_verify.specs.Written.{sections_with, written_sections, IsArchivable, IsJudged, IsSoundByItself}
@@ -114,7 +114,7 @@ FilesAreEndToEnd =
 -- over files whose sections are all sound, the store is the same whichever copy counts, and no block is a later copy
 abbrev pub SoundCopiesAreTheFirst : Type 0
 SoundCopiesAreTheFirst =
-    (files : List (List SectionMeaning)) → AreSound (copies_in files)
+    (files : List (List SectionMeaning)) → AreSoundCopies (copies_in files)
     → (store_of FirstSound files ≡ store_of First files) × (later_of FirstSound files ≡ 0)
 
 -- the header of a difference names the job's roots, and its sections are those of its pairs, each at its offset
@@ -134,7 +134,7 @@ DifferenceThenFilesRestore =
 -- and by the base's files followed by the difference, if the blocks of the base are all sound
 abbrev pub FilesThenDifferenceRestore : Type 0
 FilesThenDifferenceRestore =
-    (store base : Blocks) (files : List (List ℕ)) (number : ℕ) (job : JobMeaning) → AreReadAs files base → AreSound base
+    (store base : Blocks) (files : List (List ℕ)) (number : ℕ) (job : JobMeaning) → AreReadAs files base → AreSoundCopies base
     → HasReadableDifference (known_by base) store number job → AgreesWith base store → IsWithoutSkips store number job
     → IsRestoredByFiles store number job (files ++ difference_of (known_by base) store number job ∷ [])
 

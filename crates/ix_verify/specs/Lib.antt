@@ -1,5 +1,4 @@
 pub use Rattle.ix_sections.specs.Sections
-pub mod Kinds
 pub mod Tallied
 pub mod Names
 pub mod Outcome

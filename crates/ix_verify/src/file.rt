@@ -12,7 +12,6 @@ ghost use Rattle.ix_verify.specs.Noting.{NotesMore};
 ghost use Rattle.ix_verify.specs.Found.{unsound_of, IsFoundBeside, IsFoundFor, IsFoundOf, IsFileFault};
 ghost use Rattle.ix_verify.specs.Counted.{told_if, told_among, findings_of, IsJudgedOf, IsBatchAt, IsBatchFault};
 
-use crate::car_bytes::CarBytes;
 use crate::found::{Findings, Scope, Unsound};
 use crate::noted::Noted;
 use crate::observer::{Observer, Unobserved};
@@ -21,7 +20,7 @@ use crate::reach::{Reached, walk_given, walk_roots};
 use crate::section::verdicts_with_store;
 use ix_check::Verdict;
 use ix_cid::Cid;
-use ix_sections::{CarFault, CarKind, Section, read_header, read_section};
+use ix_sections::{CarBytes, CarFault, CarKind, Section, read_header, read_section};
 use ix_store::Store;
 use ix_verdict::AllowMissing;
 use ix_walk::Job;

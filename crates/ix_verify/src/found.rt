@@ -2,7 +2,7 @@
 
 ghost use Rattle.std.specs.Prelude.{◌≡◌};
 ghost use Rattle.ix_verify.specs.Outcome.{outcome_on, worse, outcome_at_limit};
-ghost use Rattle.ix_verify.specs.Found.{is_sound_file, outcome_of};
+ghost use Rattle.ix_verify.specs.Found.{is_whole, outcome_of};
 
 use crate::noted::Noted;
 use ix_car::Skip;
@@ -17,16 +17,6 @@ pub enum Scope {
     Sections,
     /// The same, and everything below the roots.
     Graph,
-}
-
-/// Which copy of a block counts, where several sections have its CID: those of one file, or of several, which are
-/// put end to end.
-#[derive(Debug, Drop, Clone, Copy, PartialEq, Eq)]
-pub enum Copies {
-    /// The first.
-    First,
-    /// The first that is sound, or the first if none is.
-    Sound,
 }
 
 /// What a file is found to be, from the best to the worst.
@@ -127,8 +117,8 @@ pub struct Findings {
 impl Findings {
     /// Returns whether each section is sound and nothing is missing below the roots, as far as the file
     /// was to be verified.
-    pub fn is_sound(&self) -> bool
-        ensures { result ≡ is_sound_file self.now }
+    pub fn is_whole(&self) -> bool
+        ensures { result ≡ is_whole self.now }
     {
         self.unsound.count == 0 && self.skips.count == 0 && !self.is_over_limit
     }

@@ -27,21 +27,17 @@
 //! let found = verify_job(rt, alloc, &update, walk, threads, 20)?;
 //! ```
 //!
-//! `summary_of` describes a file and its contents without hashing, and `kind_of` says what a file is that is no CAR file.
+//! `summary_of` describes a file and its contents without hashing.
 //!
 //! ```rust
-//! match summary_of(rt, alloc, &file, 0, 4) {
-//!     Ok(summary) => println!(rt; "{} sections", summary.sections)?,
-//!     Err(_) => println!(rt; "{:?}", kind_of(file.as_slice()))?,
-//! }
+//! let summary = summary_of(rt, alloc, &file, 0, 4)?;
+//! println!(rt; "{} sections", summary.sections)?;
 //! ```
 #![tactic(auto)]
 
-mod car_bytes;
 mod everything;
 mod file;
 mod found;
-mod kind;
 pub mod law;
 mod names;
 mod noted;
@@ -53,10 +49,8 @@ mod section;
 mod summary;
 mod tally;
 
-pub use car_bytes::CarBytes;
 pub use file::{JobWalk, verify, verify_beside, verify_job, verify_sections};
-pub use found::{Copies, Findings, Outcome, Scope, Unsound};
-pub use kind::{Kind, kind_of};
+pub use found::{Findings, Outcome, Scope, Unsound};
 pub use names::{codec_name, hash_name};
 pub use noted::Noted;
 pub use observer::{Observer, Unobserved};

@@ -5,14 +5,12 @@ ghost use Rattle.ix_store.specs.Sound.{sound_copies, later_count};
 ghost use Rattle.ix_sections.specs.Copies.{copies_of};
 ghost use Rattle.ix_sections.specs.Gives.{Gives};
 ghost use Rattle.ix_sections.specs.Sections.{section_list, with_sections};
-ghost use Rattle.ix_verify.specs.declared.found.Copies.TheVariants.{First, Sound};
+ghost use Rattle.ix_sections.specs.declared.files.loader.Copies.TheVariants.{First, Sound};
 ghost use Rattle.ix_verify.specs.Beside.{sections_read, blocks_beside, with_copies_in};
 ghost use Rattle.ix_verdict.specs.AllowMissing.{allow_none};
 ghost use Rattle.ix_verify.specs.Found.{with_files};
 
-use crate::car_bytes::CarBytes;
-use crate::found::Copies;
-use ix_sections::{BlockLoader, CarFault, CarKind, SoundLoader, read_sections};
+use ix_sections::{BlockLoader, CarBytes, CarFault, CarKind, Copies, SoundLoader, read_sections};
 use ix_store::{SoundStore, Store};
 use ix_verdict::AllowMissing;
 use std::alloc::{AllocError, Global};

@@ -22,7 +22,7 @@ use Rattle.ix_verdict.specs.Needed.{needed_of}
 use Rattle.ix_verdict.proofs.Needs.{known-codec-Block, known-Block, hashed-Block}
 use Rattle.ix_store.specs.Store.{Blocks, block_of, position_after, position_of, bytes_of, is_dag_cbor, value_of}
 use Rattle.ix_store.specs.Memo.{hash_matches, hash_matches_by}
-use Rattle.ix_walk.specs.Once.{is_sound_by, is_sound, sound_value}
+use Rattle.ix_walk.specs.Once.{bytes_match_by, bytes_match, sound_value}
 use Rattle.ix_walk.specs.Walking.{Going, is_barren, is_tagged, has_tag, barren_ones, expanded_also, data_inside, expanded_after, waiting}
 use Rattle.ix_walk.specs.VisitedSet.{has_expanded, is_same_going, IsNoted, expanded_of}
 use Rattle.ix_walk.specs.Arriving.{IsValue, Goes}
@@ -67,7 +67,7 @@ cid_after n place (x ∷ xs) c p e at = by (bytes_eq x.0 c) refl e (cid_after (n
 
 -- whether the block at a place is sound
 stored_sound : (store : Blocks) (c : List ℕ) (h : HashFunction) (place : ℕ) (r : Bool) → (h ≡ Sha2_256) ⊎ (h ≡ Sha2_512) → Some h ≡ hash_function_of (parts_of c) → Some place ≡ position_of store c → r ≡ get_or (map hash_matches store) place false
-    → r ≡ is_sound_by (hash_function_of (parts_of c)) (digest_of c) (block_of store c)
+    → r ≡ bytes_match_by (hash_function_of (parts_of c)) (digest_of c) (block_of store c)
 stored_sound store c h place r stored e there asked =
     let p : List ℕ × List ℕ = get_or store place ([], []) in
     let at : slice_get store place ≡ Some p = slice_get-get_or store place ([], []) (place_within place store c there) in
@@ -78,32 +78,32 @@ stored_sound store c h place r stored e there asked =
     ∙ get_or_from_slice_get (map hash_matches store) place (hash_matches p) false (slice_get-map hash_matches store place ∙ ap (option_map hash_matches) at)
     ∙ ap (λ (d : List ℕ). hash_matches_by (hash_function_of (parts_of d)) (digest_of d) p.1) named
     ∙ sound_by stored (hash_function_of (parts_of c)) e (digest_of c) p.1
-    ∙ ap (is_sound_by (hash_function_of (parts_of c)) (digest_of c)) (sym block) where
-      sound_by : (h ≡ Sha2_256) ⊎ (h ≡ Sha2_512) → (o : Option HashFunction) → Some h ≡ o → (digest b : List ℕ) → hash_matches_by o digest b ≡ is_sound_by o digest (Some b)
-      sound_by (inl is) o e digest b = subst (λ f. hash_matches_by f digest b ≡ is_sound_by f digest (Some b)) (ap (λ (g : HashFunction). Some g) (sym is) ∙ e) refl
-      sound_by (inr is) o e digest b = subst (λ f. hash_matches_by f digest b ≡ is_sound_by f digest (Some b)) (ap (λ (g : HashFunction). Some g) (sym is) ∙ e) refl
+    ∙ ap (bytes_match_by (hash_function_of (parts_of c)) (digest_of c)) (sym block) where
+      sound_by : (h ≡ Sha2_256) ⊎ (h ≡ Sha2_512) → (o : Option HashFunction) → Some h ≡ o → (digest b : List ℕ) → hash_matches_by o digest b ≡ bytes_match_by o digest (Some b)
+      sound_by (inl is) o e digest b = subst (λ f. hash_matches_by f digest b ≡ bytes_match_by f digest (Some b)) (ap (λ (g : HashFunction). Some g) (sym is) ∙ e) refl
+      sound_by (inr is) o e digest b = subst (λ f. hash_matches_by f digest b ≡ bytes_match_by f digest (Some b)) (ap (λ (g : HashFunction). Some g) (sym is) ∙ e) refl
 
 -- a block that isn't there
 absent_sound : (store : Blocks) (c : List ℕ) (h : HashFunction) → (h ≡ Sha2_256) ⊎ (h ≡ Sha2_512) → Some h ≡ hash_function_of (parts_of c) → None ≡ position_of store c
-    → false ≡ is_sound_by (hash_function_of (parts_of c)) (digest_of c) (block_of store c)
-absent_sound store c h stored e absent = by stored (hash_function_of (parts_of c)) e (digest_of c) ∙ ap (is_sound_by (hash_function_of (parts_of c)) (digest_of c)) (sym (none_behind 0 store c absent)) where
-  by : (h ≡ Sha2_256) ⊎ (h ≡ Sha2_512) → (o : Option HashFunction) → Some h ≡ o → (digest : List ℕ) → false ≡ is_sound_by o digest None
-  by (inl is) o e digest = subst (λ f. false ≡ is_sound_by f digest None) (ap (λ (g : HashFunction). Some g) (sym is) ∙ e) refl
-  by (inr is) o e digest = subst (λ f. false ≡ is_sound_by f digest None) (ap (λ (g : HashFunction). Some g) (sym is) ∙ e) refl
+    → false ≡ bytes_match_by (hash_function_of (parts_of c)) (digest_of c) (block_of store c)
+absent_sound store c h stored e absent = by stored (hash_function_of (parts_of c)) e (digest_of c) ∙ ap (bytes_match_by (hash_function_of (parts_of c)) (digest_of c)) (sym (none_behind 0 store c absent)) where
+  by : (h ≡ Sha2_256) ⊎ (h ≡ Sha2_512) → (o : Option HashFunction) → Some h ≡ o → (digest : List ℕ) → false ≡ bytes_match_by o digest None
+  by (inl is) o e digest = subst (λ f. false ≡ bytes_match_by f digest None) (ap (λ (g : HashFunction). Some g) (sym is) ∙ e) refl
+  by (inr is) o e digest = subst (λ f. false ≡ bytes_match_by f digest None) (ap (λ (g : HashFunction). Some g) (sym is) ∙ e) refl
 
 -- of a known codec
-known_sound : (store : Blocks) (c : List ℕ) (r : Bool) → has_codec c ≡ true → r ≡ is_sound store c → r ≡ (has_codec c && is_sound store c)
-known_sound store c r codec is = is ∙ ap (λ (t : Bool). t && is_sound store c) (sym codec)
+known_sound : (store : Blocks) (c : List ℕ) (r : Bool) → has_codec c ≡ true → r ≡ bytes_match store c → r ≡ (has_codec c && bytes_match store c)
+known_sound store c r codec is = is ∙ ap (λ (t : Bool). t && bytes_match store c) (sym codec)
 
 module _ (store : Blocks) (c : List ℕ) (h : HashFunction) (needed : Block h ≡ needed_of (parts_of c)) where
   -- the block at a place
-  pub sound_stored : (place : ℕ) (r : Bool) → Some place ≡ position_of store c → r ≡ get_or (map hash_matches store) place false → r ≡ (has_codec c && is_sound store c)
+  pub sound_stored : (place : ℕ) (r : Bool) → Some place ≡ position_of store c → r ≡ get_or (map hash_matches store) place false → r ≡ (has_codec c && bytes_match store c)
   sound_stored place r there asked =
       known_sound store c r (known-codec-Block (parts_of c) h needed)
       (stored_sound store c h place r (hashed-Block (parts_of c) h needed) (sym (known-Block (parts_of c) h needed)) there asked)
 
   -- no block
-  pub sound_absent : None ≡ position_of store c → false ≡ (has_codec c && is_sound store c)
+  pub sound_absent : None ≡ position_of store c → false ≡ (has_codec c && bytes_match store c)
   sound_absent absent =
       known_sound store c false (known-codec-Block (parts_of c) h needed) (absent_sound store c h (hashed-Block (parts_of c) h needed) (sym (known-Block (parts_of c) h needed)) absent)
 
@@ -169,8 +169,8 @@ codec_valued store c b value = on (is_dag_cbor c) refl value.1 where
   on false is e = absurd cc
 
 -- so whether it is sound is up to the hash
-pub sound_valued : (store : Blocks) (c b : List ℕ) (r : Bool) → IsValue (value_of store c) (Some b) → r ≡ (has_codec c && is_sound store c) → r ≡ is_sound store c
-sound_valued store c b r value is = is ∙ ap (λ (t : Bool). t && is_sound store c) (codec_valued store c b value)
+pub sound_valued : (store : Blocks) (c b : List ℕ) (r : Bool) → IsValue (value_of store c) (Some b) → r ≡ (has_codec c && bytes_match store c) → r ≡ bytes_match store c
+sound_valued store c b r value is = is ∙ ap (λ (t : Bool). t && bytes_match store c) (codec_valued store c b value)
 
 -- not into this one
 stays : (store : Blocks) (c : List ℕ) (places : List Place) (depth : ℕ) (had has : Going) → data_inside store (Some had) (waiting places depth c) ≡ None → has ≡ had
@@ -181,19 +181,19 @@ stays store c places depth had has none same =
 -- nothing is below a CID without the head of a tag in its bytes
 pub untagged_barren : (store : Blocks) (c b : List ℕ) → bytes_of store c ≡ Some b → has_tag b ≡ false → is_barren store c ≡ true
 untagged_barren store c b bytes none =
-    ap (λ (o : Option (List ℕ)). not (is_sound store c && is_tagged o)) bytes ∙ ap (λ (t : Bool). not (is_sound store c && t)) none ∙ either (is_sound store c) where
+    ap (λ (o : Option (List ℕ)). not (bytes_match store c && is_tagged o)) bytes ∙ ap (λ (t : Bool). not (bytes_match store c && t)) none ∙ either (bytes_match store c) where
       either : (s : Bool) → not (s && false) ≡ true
       either true = refl
       either false = refl
 
 -- nor below a damaged one
-pub damaged_barren : (store : Blocks) (c : List ℕ) → is_sound store c ≡ false → is_barren store c ≡ true
+pub damaged_barren : (store : Blocks) (c : List ℕ) → bytes_match store c ≡ false → is_barren store c ≡ true
 damaged_barren store c damaged = ap (λ (s : Bool). not (s && is_tagged (bytes_of store c))) damaged
 
 -- below another something may be
-pub tagged_sound : (store : Blocks) (c b : List ℕ) → bytes_of store c ≡ Some b → has_tag b ≡ true → is_sound store c ≡ true → is_barren store c ≡ false
+pub tagged_sound : (store : Blocks) (c b : List ℕ) → bytes_of store c ≡ Some b → has_tag b ≡ true → bytes_match store c ≡ true → is_barren store c ≡ false
 tagged_sound store c b bytes tag sound =
-    ap (λ (o : Option (List ℕ)). not (is_sound store c && is_tagged o)) bytes ∙ ap (λ (t : Bool). not (is_sound store c && t)) tag ∙ ap (λ (s : Bool). not (s && true)) sound
+    ap (λ (o : Option (List ℕ)). not (bytes_match store c && is_tagged o)) bytes ∙ ap (λ (t : Bool). not (bytes_match store c && t)) tag ∙ ap (λ (s : Bool). not (s && true)) sound
 
 -- so at a first visit of such a CID nothing is expanded
 pub goes_barren : (store : Blocks) (c : List ℕ) (places : List Place) (depth : ℕ) (old new : VisitedSet) → IsNoted old new (position_of store c) c places true → is_barren store c ≡ true
@@ -213,7 +213,7 @@ goes_again store c places depth old new is =
       expanded false = refl
 
 -- and at a first visit of a sound block with the head of a tag its data are
-pub goes_first : (store : Blocks) (c : List ℕ) (places : List Place) (depth : ℕ) (old new : VisitedSet) (b : List ℕ) → is_barren store c ≡ false → is_sound_by (hash_function_of (parts_of c)) (digest_of c) (block_of store c) ≡ true
+pub goes_first : (store : Blocks) (c : List ℕ) (places : List Place) (depth : ℕ) (old new : VisitedSet) (b : List ℕ) → is_barren store c ≡ false → bytes_match_by (hash_function_of (parts_of c)) (digest_of c) (block_of store c) ≡ true
     → IsNoted old new (position_of store c) c places true → IsValue (value_of store c) (Some b) → Goes store (waiting places depth c) (Some (expanded_of store old)) (Some b) (Some (expanded_of store new))
 goes_first store c places depth old new b linked sound is value =
     let inside : data_inside store (Some (expanded_of store old)) (waiting places depth c) ≡ Some value.0 =

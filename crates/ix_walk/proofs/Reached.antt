@@ -15,7 +15,7 @@ use Rattle.ix_selector.specs.Residual.{Place}
 use Rattle.ix_walk.specs.declared.subtree.PendingLink.{PendingLink}
 use Rattle.ix_walk.specs.Arrivals.{Arrival, Crossing, behind, arrivals_below, arrivals_in_items, arrivals_in_entries, Inside, when_some, arrivals_at, arrivals_from}
 use Rattle.ix_store.specs.Store.{Blocks, bytes_of, is_dag_cbor, value_of}
-use Rattle.ix_walk.specs.Once.{roots_from, expanded_at, is_sound, sound_value, once, once_from}
+use Rattle.ix_walk.specs.Once.{roots_from, expanded_at, bytes_match, sound_value, once, once_from}
 use Rattle.ix_walk.specs.Once as going
 use Rattle.ix_walk.specs.Visits.{visits_from, visit_of}
 use Rattle.ix_selector.specs.Behind.{residual_after, same_residual}
@@ -349,7 +349,7 @@ module _ (enters : Path → Bool) (left : Path → List Place) (stays : (p : Pat
 
     -- nothing below a barren CID is visited
     barren : AreBarren (is_barren store)
-    barren a is = by (is_sound store a.cid) (is_tagged (bytes_of store a.cid)) refl (not-true _ is) where
+    barren a is = by (bytes_match store a.cid) (is_tagged (bytes_of store a.cid)) refl (not-true _ is) where
       valued : (dag : Bool) (o : Option (List ℕ)) → is_tagged o ≡ false → below (if dag then option_and_then data_at o else None) a ≡ []
       valued false o none = refl
       valued true None none = refl

@@ -65,21 +65,21 @@ first_ones [] = []
 first_ones (c ∷ cs) = c ∷ filter (λ e. not (bytes_eq e c)) (first_ones cs)
 
 -- by this hash function, the digest is of the block that is there, or is the inline data
-abbrev pub is_sound_by : Option HashFunction → List ℕ → Option (List ℕ) → Bool
-is_sound_by None digest block = false
-is_sound_by (Some Identity) digest block = true
-is_sound_by (Some Sha2_256) digest None = false
-is_sound_by (Some Sha2_256) digest (Some block) = hash_matches_by (Some Sha2_256) digest block
-is_sound_by (Some Sha2_512) digest None = false
-is_sound_by (Some Sha2_512) digest (Some block) = hash_matches_by (Some Sha2_512) digest block
+abbrev pub bytes_match_by : Option HashFunction → List ℕ → Option (List ℕ) → Bool
+bytes_match_by None digest block = false
+bytes_match_by (Some Identity) digest block = true
+bytes_match_by (Some Sha2_256) digest None = false
+bytes_match_by (Some Sha2_256) digest (Some block) = hash_matches_by (Some Sha2_256) digest block
+bytes_match_by (Some Sha2_512) digest None = false
+bytes_match_by (Some Sha2_512) digest (Some block) = hash_matches_by (Some Sha2_512) digest block
 
 -- in a store, the bytes that a CID names match it
-abbrev pub is_sound : Blocks → List ℕ → Bool
-is_sound store c = is_sound_by (hash_function_of (parts_of c)) (digest_of c) (block_of store c)
+abbrev pub bytes_match : Blocks → List ℕ → Bool
+bytes_match store c = bytes_match_by (hash_function_of (parts_of c)) (digest_of c) (block_of store c)
 
 -- the data of a CID if its block is sound
 abbrev pub sound_value : Blocks → List ℕ → Option Data
-sound_value store c = if is_sound store c then value_of store c else None
+sound_value store c = if bytes_match store c then value_of store c else None
 
 -- the visits of a job with link-visit-once that expands sound blocks only: its limit of them, and one more if there is one
 abbrev pub once_arrivals : {R : Type 0} → Blocks → JobMeaning → (Path → R) → (R → R → Bool) → List Arrival

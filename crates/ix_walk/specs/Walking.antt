@@ -16,7 +16,7 @@ use Rattle.ix_walk.specs.declared.subtree.Frontier.{Frontier}
 use Rattle.ix_walk.specs.declared.subtree.PendingLink.{PendingLink}
 use Rattle.ix_store.specs.Store.{Blocks, bytes_of, value_of}
 use Rattle.ix_walk.specs.Arrivals.{Arrival}
-use Rattle.ix_walk.specs.Once.{is_sound, sound_value}
+use Rattle.ix_walk.specs.Once.{bytes_match, sound_value}
 use Rattle.ix_walk.specs.Visits.{visits_from}
 use Rattle.ix_walk.specs.WalkLeft.{WalkLeft, nothing_left}
 
@@ -84,7 +84,7 @@ is_tagged (Some b) = has_tag b
 
 -- nothing below a CID is visited: its block isn't sound, or no link is in it
 abbrev pub is_barren : Blocks → List ℕ → Bool
-is_barren store c = not (is_sound store c && is_tagged (bytes_of store c))
+is_barren store c = not (bytes_match store c && is_tagged (bytes_of store c))
 
 -- what was expanded: CIDs, each with the residual there
 abbrev pub Going : Type 0

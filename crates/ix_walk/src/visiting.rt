@@ -4,7 +4,7 @@ ghost use Rattle.std.specs.Prelude.{◌≡◌, ◌&&◌, ◌+◌, ◌<◌, ◌^�
 ghost use Rattle.ix_cbor.specs.Reading.{data_at};
 ghost use Rattle.ix_verdict.specs.Verdict.{has_codec};
 ghost use Rattle.ix_store.specs.Store.{bytes_of, value_of};
-ghost use Rattle.ix_walk.specs.Once.{is_sound};
+ghost use Rattle.ix_walk.specs.Once.{bytes_match};
 ghost use Rattle.ix_walk.specs.Descent.{IsItem};
 ghost use Rattle.ix_walk.specs.Arriving.{known_bytes, IsPositionOf, IsValue, IsReading, GoesInto, Roots, Arrives, FindsNext, TakesNext};
 ghost use Rattle.ix_walk.specs.Walking.{has_tag, IsBehindFirst, IsStanding, IsWalk};
@@ -73,9 +73,9 @@ pub fn read_block<'a>(
 
 // Whether the CID of a visit is of a known codec and the bytes that it names match it: those inline
 // in it (an identity CID), and those of a block whose hash matches.
-fn is_sound(store: &Store, visit: &Visit) -> bool
+fn bytes_match(store: &Store, visit: &Visit) -> bool
     requires { IsPositionOf store.now visit.now.cid visit.now.block }
-    ensures { result ≡ (has_codec visit.now.cid && is_sound store.now visit.now.cid) }
+    ensures { result ≡ (has_codec visit.now.cid && bytes_match store.now visit.now.cid) }
 {
     match bytes_needed(&visit.cid.parts()) {
         Needed::Nothing(_) => false,
@@ -144,7 +144,7 @@ pub fn bytes_to_expand<'a, 's>(
     if !has_tag(bytes.bytes()) {
         return Ok(None);
     }
-    if !is_sound(store, visit) {
+    if !bytes_match(store, visit) {
         return Ok(None);
     }
     Ok(Some(bytes))

@@ -3,7 +3,7 @@ use Rattle.std.specs.Prelude.{Option}
 use Rattle.std.specs.Arc.{arc_value}
 use Rattle.ix_store.specs.Store.{Blocks}
 use Rattle.ix_store.specs.declared.places.PlaceSet.{PlaceSet}
-use Rattle.ix_files.specs.Known.{IsKnownWith}
+use Rattle.ix_jobs.specs.Listing.{IsKnownWith}
 use Rattle.ix_load.proofs.known.add_list.Goals as goal
 
 pub returns-in-Ok : goal.returns-in-Ok

@@ -6,8 +6,9 @@ use Rattle.ix_receive.specs.declared.fault.ReceiveFault.TheVariants.{Unsound, In
 use Rattle.ix_receive.specs.declared.traversal.Traversal.{Traversal}
 use Rattle.ix_store.specs.Store.{Blocks}
 use Rattle.ix_receive.specs.Base.{store_of}
-use Rattle.ix_receive.specs.Traversal.{AreSound, Expands, as_pending}
-use Rattle.ix_receive.proofs.Lookup.{in-neither}
+use Rattle.ix_receive.specs.Traversal.{Expands, as_pending}
+use Rattle.ix_known.specs.Known.{AreSound}
+use Rattle.ix_known.proofs.Lists.{in-neither}
 use Rattle.ix_receive.proofs.Receptions.{new-cid, now-sound, is-received}
 use Rattle.ix_receive.proofs.Refusals.{rightly, rightly-not-found}
 use Rattle.ix_receive.proofs.receiver.receive.Goals as goal

@@ -1,5 +1,4 @@
-use Rattle.ix_car.specs.Archive.{difference_of}
-use Rattle.ix_car.specs.KnownPlaces.{known_by}
+use Rattle.ix_car.specs.Archive.{difference_of, known_by}
 use Rattle.ix_verify.proofs.Differences.{difference-then_files, written-difference}
 use Rattle.ix_verify.proofs.law.written_difference_restores.Goals as goal
 

@@ -33,8 +33,8 @@ returns-then-not-has_tag-clause-goes c = λ depth.
     subst (λ (g : Option VisitedSet). Goes store (waiting places depth cid) (going_of store g) None (Some (expanded_of store new))) (sym c.in-Some.is)
     (goes_barren store cid places depth c.in-Some.expanded new noted (untagged_barren store cid c.in-Some-bytes.bytes bytes (sym (ap has_tag c.bytes.ensures) ∙ sym c.has_tag.ensures ∙ c.if-not-has_tag.true)))
 
-pub returns-then-not-is_sound-clause-goes : goal.returns-then-not-is_sound-clause-goes
-returns-then-not-is_sound-clause-goes c = λ depth.
+pub returns-then-not-bytes_match-clause-goes : goal.returns-then-not-bytes_match-clause-goes
+returns-then-not-bytes_match-clause-goes c = λ depth.
     let store = c.args.store.now in
     let cid = c.args.visit.now.cid in
     let places = c.args.residual.now in
@@ -44,9 +44,9 @@ returns-then-not-is_sound-clause-goes c = λ depth.
     (subst (λ (b : Option ℕ). IsNoted c.in-Some.expanded new b cid places c.in_ok-is_first.is_first) c.requires.block c.in_ok-is_first.ensures) in
     let bytes = subst (λ (o : Option (List ℕ)). IfSome o (λ b. bytes_of store cid ≡ Some b)) c.in-Some-bytes.is c.requires.bytes in
     let value = subst (IsValue (value_of store cid)) c.in-Some-bytes.is c.requires.value in
-    let sound = sound_valued store cid c.in-Some-bytes.bytes c.is_sound.result value c.is_sound.ensures in
+    let sound = sound_valued store cid c.in-Some-bytes.bytes c.bytes_match.result value c.bytes_match.ensures in
     subst (λ (g : Option VisitedSet). Goes store (waiting places depth cid) (going_of store g) None (Some (expanded_of store new))) (sym c.in-Some.is)
-    (goes_barren store cid places depth c.in-Some.expanded new noted (damaged_barren store cid (sym sound ∙ c.if-not-is_sound.true)))
+    (goes_barren store cid places depth c.in-Some.expanded new noted (damaged_barren store cid (sym sound ∙ c.if-not-bytes_match.true)))
 
 pub returns-clause-goes : goal.returns-clause-goes
 returns-clause-goes c = λ depth.
@@ -59,6 +59,6 @@ returns-clause-goes c = λ depth.
     (subst (λ (b : Option ℕ). IsNoted c.in-Some.expanded new b cid places c.in_ok-is_first.is_first) c.requires.block c.in_ok-is_first.ensures) in
     let bytes = subst (λ (o : Option (List ℕ)). IfSome o (λ b. bytes_of store cid ≡ Some b)) c.in-Some-bytes.is c.requires.bytes in
     let value = subst (IsValue (value_of store cid)) c.in-Some-bytes.is c.requires.value in
-    let sound = sym (sound_valued store cid c.in-Some-bytes.bytes c.is_sound.result value c.is_sound.ensures) ∙ c.if-not-is_sound.false in
+    let sound = sym (sound_valued store cid c.in-Some-bytes.bytes c.bytes_match.result value c.bytes_match.ensures) ∙ c.if-not-bytes_match.false in
     subst (λ (g : Option VisitedSet). Goes store (waiting places depth cid) (going_of store g) (Some c.in-Some-bytes.bytes) (Some (expanded_of store new))) (sym c.in-Some.is)
     (goes_first store cid places depth c.in-Some.expanded new c.in-Some-bytes.bytes (tagged_sound store cid c.in-Some-bytes.bytes bytes (sym (ap has_tag c.bytes.ensures) ∙ sym c.has_tag.ensures ∙ c.if-not-has_tag.false) sound) sound noted value)

@@ -1,7 +1,7 @@
 use Rattle.std.proofs.Common.{◌<◌, length, refl, subst, rules}
 use Rattle.std.specs.Arc.{arc_value}
 use Rattle.ix_store.specs.Store.{Blocks}
-use Rattle.ix_files.specs.Known.{IsKnownIn}
+use Rattle.ix_known.specs.Files.{IsKnownByFiles}
 use Rattle.ix_load.proofs.Receivers.{knows-files}
 use Rattle.ix_load.proofs.known.KnownInputs.add_files.Goals as goal
 
@@ -9,5 +9,5 @@ pub returns : goal.returns
 returns g c =
     let carv2 = c.args.self.now.files.reading.carv2 in
     let some : 0 < length c.args.files.items = search rules in
-    let known = subst (λ (store : Blocks). IsKnownIn carv2 store c.args.files.items c.in_ok-known.known) c.deref.ensures c.in_ok-known.ensures.known in
+    let known = subst (λ (store : Blocks). IsKnownByFiles carv2 store c.args.files.items c.in_ok-known.known) c.deref.ensures c.in_ok-known.ensures.known in
     record { same = refl; more = knows-files carv2 (arc_value c.args.blocks.now.store) c.args.files.items c.args.blocks.now.known c.in_ok-known.known some known }

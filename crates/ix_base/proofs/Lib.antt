@@ -1,4 +1,0 @@
-mod Pairs
-mod Decided
-mod Copies
-mod Sections

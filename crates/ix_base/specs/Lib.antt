@@ -1,4 +1,0 @@
-pub mod Places
-pub mod Base
-pub mod Findings
-pub mod Batches

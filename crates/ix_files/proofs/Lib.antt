@@ -1,2 +1,0 @@
-pub mod ReadFiles
-pub mod BaseFiles

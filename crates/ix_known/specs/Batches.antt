@@ -1,0 +1,25 @@
+-- The sections of a base's file, a batch at a time.
+use Rattle.std.specs.Prelude.{◌≡◌, ℕ, ◌-◌, ◌<◌, ◌≤◌, List, length, map, IsOkAnd}
+use Rattle.std.specs.Borrow.{Bor}
+use Rattle.std.specs.Global.{Vec}
+use Rattle.ix_store.specs.Store.{Blocks, with_blocks}
+use Rattle.ix_sections.specs.declared.fault.CarFault.{CarFault}
+use Rattle.ix_sections.specs.declared.reader.sections.Section.{Section}
+use Rattle.ix_sections.specs.Gives.{FailsAs}
+use Rattle.ix_sections.specs.Reading.{sections_at}
+use Rattle.ix_known.specs.declared.places.Places.{Places}
+use Rattle.ix_known.specs.Places.{ArePlacesOf}
+use Rattle.ix_known.specs.Findings.{pair_of}
+
+-- sections at the front of bytes, and the bytes after them: whatever blocks there are before, these are next
+pub record IsBatchAt (b : List ℕ) (r : Vec Section × Bor (List ℕ)) : Type 0 where
+  pub read : (base : Blocks) → sections_at (length b) base b ≡ sections_at (length r.1.now) (with_blocks base (map pair_of r.0.items)) r.1.now
+  pub shorter : length r.1.now < length b
+
+-- an error of the sections that end a file of so many bytes, whatever blocks there are before
+abbrev pub IsFaultIn : ℕ → List ℕ → CarFault → Type 0
+IsFaultIn size b e = (e.place ≤ size) × ((base : Blocks) → FailsAs e.kind (size - e.place) (sections_at (length b) base b))
+
+-- the blocks of these sections were added
+abbrev pub AddsSections : Blocks → Places → Places → List ℕ → Type 0
+AddsSections store old new b = (base : Blocks) → ArePlacesOf store base old → IsOkAnd (sections_at (length b) base b) (λ more. ArePlacesOf store more new)

@@ -1,0 +1,57 @@
+//! Which blocks of a store the files of a receiver have.
+
+ghost use Rattle.std.specs.Prelude.{IfOk, IfErr};
+ghost use Rattle.ix_sections.specs.Files.{IsFirstFault, IsReadFault, with_file};
+ghost use Rattle.ix_sections.specs.declared.files.loader.Copies.TheVariants.{First};
+ghost use Rattle.ix_known.specs.Files.{IsKnownByFiles, AddsBaseFile};
+
+use crate::base::Base;
+use ix_sections::{CarFault, FileFault, payload_in};
+use ix_store::{PlaceSet, Store};
+use std::alloc::Global;
+use std::thread::Threads;
+
+/// Returns the positions in a store of the blocks of which the files of a receiver have a sound copy: the first copy of
+/// each CID counts, over the files, read one after the other. Or returns the first error, and its file. The memory of
+/// a file is freed once its sections were looked up. So many threads look them up and hash them.
+pub fn known_of<R: Threads + Sync>(
+    rt: &R,
+    alloc: Global,
+    store: &Store,
+    files: Vec<Vec<u8>>,
+    carv2: bool,
+    threads: usize,
+) -> Result<PlaceSet, FileFault>
+    ensures known { IfOk result (IsKnownByFiles carv2 store.now files.items) }
+    ensures refused { IfErr result
+        (IsFirstFault (record { carv2 = carv2; copies = First }) files.items) }
+{
+    let mut base = Base::new(alloc, store);
+    for (number, bytes) in files.into_iter().enumerate() {
+        match with_base_file(rt, alloc, base, bytes.as_slice(), carv2, threads) {
+            Ok(more) => base = more,
+            Err(fault) => return Err(FileFault {
+                file: number,
+                fault,
+            }),
+        }
+    }
+    Ok(base.into_known())
+}
+
+// Reads one file more of a receiver, or returns its first error.
+fn with_base_file<'a, R: Threads + Sync>(
+    rt: &R,
+    alloc: Global,
+    base: Base<'a>,
+    bytes: &[u8],
+    carv2: bool,
+    threads: usize,
+) -> Result<Base<'a>, CarFault>
+    ensures added { IfOk result (AddsBaseFile carv2 bytes.now base.entry) }
+    ensures refused { IfErr result (λ fault. (blocks : _)
+        → IsReadFault (with_file carv2 First blocks bytes.now) fault) }
+{
+    let payload = payload_in(carv2, bytes)?;
+    base.with_file(rt, alloc, bytes, payload, threads)
+}
