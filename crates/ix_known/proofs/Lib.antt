@@ -1,5 +1,5 @@
 pub mod Lists
-pub mod KnownBlocks
+pub mod KnownCopies
 pub mod KnownIn
 mod Pairs
 mod Decided

@@ -11,11 +11,6 @@ use Rattle.ix_known.specs.declared.places.Places.{Places}
 use Rattle.ix_known.specs.Places.{ArePlacesOf}
 use Rattle.ix_known.specs.Findings.{pair_of}
 
--- sections at the front of bytes, and the bytes after them: whatever blocks there are before, these are next
-pub record IsBatchAt (b : List ℕ) (r : Vec Section × Bor (List ℕ)) : Type 0 where
-  pub read : (base : Blocks) → sections_at (length b) base b ≡ sections_at (length r.1.now) (with_blocks base (map pair_of r.0.items)) r.1.now
-  pub shorter : length r.1.now < length b
-
 -- an error of the sections that end a file of so many bytes, whatever blocks there are before
 abbrev pub IsFaultIn : ℕ → List ℕ → CarFault → Type 0
 IsFaultIn size b e = (e.place ≤ size) × ((base : Blocks) → FailsAs e.kind (size - e.place) (sections_at (length b) base b))

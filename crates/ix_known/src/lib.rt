@@ -16,7 +16,6 @@
 #![tactic(auto)]
 
 mod base;
-mod batch;
 mod blocks;
 mod files;
 mod finding;

@@ -6,9 +6,8 @@ ghost use Rattle.ix_known.specs.Places.{ArePlacesOf, AddsBlocks, IsDecided};
 ghost use Rattle.ix_known.specs.Findings.{pair_of, TakesIn, HasAllOf};
 ghost use Rattle.ix_known.specs.Batches.{AddsSections, IsFaultIn};
 
-use crate::batch::{no_memory, read_batch};
 use crate::finding::{Finding, Lookup, findings_of};
-use ix_sections::{CarFault, Section};
+use ix_sections::{CarFault, Section, read_batch};
 use ix_store::{PlaceSet, Store};
 use std::alloc::{AllocError, Global};
 use std::thread::Threads;
@@ -54,7 +53,7 @@ impl Places {
             let (batch, after) = read_batch(spare, size, rest)?;
             let added = self.add_batch(rt, alloc, store, guess, batch.as_slice(), threads);
             let Ok(next) = added else {
-                return Err(no_memory(size - rest.len()));
+                return Err(CarFault::no_memory(size - rest.len()));
             };
             guess = next;
             spare = batch;

@@ -5,7 +5,7 @@ use Rattle.std.specs.Borrow.{Bor}
 use Rattle.ix_store.specs.Store.{Blocks, has_cid, value_of}
 use Rattle.ix_car.specs.Archive.{is_known}
 use Rattle.ix_known.specs.Known.{known_blocks}
-use Rattle.ix_known.proofs.KnownBlocks.{known-has, known-sound, value-by}
+use Rattle.ix_known.proofs.KnownCopies.{known-has, known-sound, value-by}
 use Rattle.ix_known.proofs.Lists.{block-right, has-append}
 use Rattle.ix_receive.specs.Own.{base_known}
 use Rattle.ix_receive.specs.Base.{store_of, AreKnown}

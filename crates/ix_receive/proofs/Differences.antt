@@ -26,7 +26,7 @@ use Rattle.ix_receive.proofs.Fresh.{outside, fresh, fresh-is, in-fresh, fresh-in
 use Rattle.ix_receive.proofs.Lookup.{pair_in}
 use Rattle.ix_known.proofs.Lists.{block-left, block-right}
 use Rattle.ix_receive.proofs.Again.{value_in, chosen, pairs-by, chosen-same, value-same, sections-same, sections-sound, each-inside}
-use Rattle.ix_known.proofs.KnownBlocks.{known-block, known-has}
+use Rattle.ix_known.proofs.KnownCopies.{known-block, known-has}
 
 module _ (store base : Blocks) (number : ℕ) (job : JobMeaning) (has : HasWhatIsKnown store base (once job)) where
   -- the known blocks of the base

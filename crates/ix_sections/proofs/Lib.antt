@@ -4,5 +4,6 @@ pub mod Sections
 pub mod SectionCids
 pub mod SectionLists
 pub mod HeaderParts
-pub mod Copies
+pub mod CopyLists
 pub mod ReadFiles
+pub mod Batches

@@ -64,7 +64,7 @@ with_sections-append store [] s = refl
 with_sections-append store (t ∷ ss) s = with_sections-append (with_block store (t.cid, t.block)) ss s
 
 -- the blocks from a place on are those of the sections from there on
-blocks-behind : (store : Blocks) (size n : ℕ) (so_far : List SectionMeaning) (b : List ℕ) → sections_at n (with_sections store so_far) b ≡ with_first_of_each store (sections_after size n so_far b)
+pub blocks-behind : (store : Blocks) (size n : ℕ) (so_far : List SectionMeaning) (b : List ℕ) → sections_at n (with_sections store so_far) b ≡ with_first_of_each store (sections_after size n so_far b)
 unfolding sections_at sections_after
 blocks-behind store size n so_far [] = refl
 blocks-behind store size zero so_far (x ∷ b) = refl

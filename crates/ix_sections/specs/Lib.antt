@@ -12,3 +12,4 @@ pub mod Standing
 pub mod Files
 pub mod Loader
 pub mod Kinds
+pub mod Batches

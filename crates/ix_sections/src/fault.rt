@@ -1,5 +1,8 @@
 //! Why a file is rejected.
 
+ghost use Rattle.std.specs.Prelude.{◌≡◌};
+ghost use Rattle.ix_sections.specs.declared.fault.CarKind.TheVariants.{Memory};
+
 use std::fmt;
 
 /// What is wrong with a CARv1 file.
@@ -26,6 +29,18 @@ pub struct CarFault {
     pub kind: CarKind,
     /// The offset in bytes from the start of the file.
     pub place: usize,
+}
+
+impl CarFault {
+    /// Returns the error of memory that ran out at this offset.
+    pub fn no_memory(place: usize) -> CarFault
+        ensures { result ≡ record { kind = Memory; place = place } }
+    {
+        CarFault {
+            kind: CarKind::Memory,
+            place,
+        }
+    }
 }
 
 impl fmt::Display for CarKind {

@@ -26,6 +26,7 @@ pub use files::{Copies, FileBlocks, FileFault, Reading, blocks_of, payload_in};
 pub use kind::{Kind, kind_of};
 pub use payload::{Payload, has_index, is_carv2, payload_of};
 pub use reader::{
-    BlockLoader, CarFile, Section, SoundLoader, read_car, read_header, read_section, read_sections,
+    BlockLoader, CarFile, Section, SoundLoader, read_batch, read_car, read_header, read_section,
+    read_sections,
 };
 pub use writer::{header_of, set_section_head, write_section, write_text};

@@ -3,6 +3,7 @@
 ghost use Rattle.ix_sections.specs.Reading.{blocks_of};
 ghost use Rattle.ix_sections.specs.Gives.{Gives};
 
+mod batch;
 mod by_threads;
 mod header;
 mod indexing;
@@ -14,6 +15,7 @@ mod store;
 use crate::fault::{CarFault, CarKind};
 use crate::reader::indexing::InTurn;
 use crate::reader::store::load_shared;
+pub use batch::read_batch;
 pub use by_threads::BlockLoader;
 use ix_store::Store;
 pub use sections::{CarFile, Section, read_header, read_section, read_sections};

@@ -18,38 +18,7 @@ use Rattle.ix_verify.specs.declared.found.Unsound.{Unsound}
 use Rattle.ix_verify.specs.Outcome.{section_finding}
 use Rattle.ix_verify.specs.Noting.{IsNoted, NotesMore}
 use Rattle.ix_verify.specs.Found.{told_of, unsound_of}
-use Rattle.ix_verify.specs.Counted.{IsBatchAt}
-
--- ---- a batch
-
-module _ (size : ℕ) (b : List ℕ) where
-  -- whatever sections stand before, these bytes give these sections, and then what the rest gives
-  abbrev pub ReadsOn : List Section → List ℕ → Type 0
-  ReadsOn batch rest = (before : List SectionMeaning) → ListGoesOn size (before ++ map section_of batch) rest (sections_after size (length b) before b)
-
-  pub reads-first : ReadsOn [] b
-  reads-first before n h =
-      subst (λ (l : List SectionMeaning). sections_after size n l b ≡ sections_after size (length b) before b) (sym (append-nil before))
-      (sections_after-enough size n (length b) before b h (omega arith))
-
-  pub reads-more : (batch : List Section) (s : Section) (rest after : List ℕ) → 0 < length rest → section_at rest ≡ Ok ((s.cid, s.block.now), after) → s.place ≡ size - length rest
-      → ReadsOn batch rest → ReadsOn (batch ++ s ∷ []) after
-  reads-more batch s rest after some read place reads_on before =
-      let whole = sections_after size (length b) before b in
-      let same : (before ++ map section_of batch) ++ placed (size - length rest) (s.cid, s.block.now) ∷ [] ≡ before ++ map section_of (batch ++ s ∷ []) =
-      ap (λ (n : ℕ). (before ++ map section_of batch) ++ placed n (s.cid, s.block.now) ∷ []) (sym place)
-      ∙ append_assoc before (map section_of batch) (section_of s ∷ [])
-      ∙ ap (λ (l : List SectionMeaning). before ++ l) (sym (map_push section_of batch s)) in
-      subst (λ (l : List SectionMeaning). ListGoesOn size l after whole) same
-      (ListGoesOn-more size (before ++ map section_of batch) rest whole ((s.cid, s.block.now), after) some read (reads_on before))
-
-  pub reads-fault : (batch : List Section) (rest : List ℕ) (kind : CarKind) (left : ℕ) → 0 < length rest → section_at rest ≡ Err (record { kind = kind; left = left }) → ReadsOn batch rest
-      → (before : List SectionMeaning) → FailsAs kind left (sections_after size (length b) before b)
-  reads-fault batch rest kind left some read reads_on before =
-      let whole = sections_after size (length b) before b in
-      FailsAs-of kind left whole (ListGoesOn-fails size (before ++ map section_of batch) rest whole some (reads_on before) (record { kind = kind; left = left }) read)
-
--- ---- all of them
+use Rattle.ix_sections.specs.Batches.{IsBatchAt}
 
 -- what isn't sound of some sections and then of others
 unsound-append : (xs ys : List SectionMeaning) → unsound_of (xs ++ ys) ≡ unsound_of xs ++ unsound_of ys

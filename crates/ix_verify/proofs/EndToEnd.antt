@@ -5,7 +5,7 @@ use Rattle.ix_store.specs.Store.{Blocks, with_block}
 use Rattle.ix_store.specs.Sound.{AreSoundCopies}
 use Rattle.ix_sections.specs.Copies.{copy_of, copies_of}
 use Rattle.ix_sections.specs.Sections.{SectionMeaning, with_sections}
-use Rattle.ix_sections.proofs.Copies.{preferred-first, preferred-none-later}
+use Rattle.ix_sections.proofs.CopyLists.{preferred-first, preferred-none-later}
 use Rattle.ix_sections.specs.declared.files.loader.Copies.TheVariants.{First, Sound}
 use Rattle.ix_verify.specs.Beside.{with_copies_in}
 use Rattle.ix_verify.specs.Found.{with_files, copies_in, store_of, later_of}

@@ -1,7 +1,6 @@
 //! Verifies files.
 
 ghost use Rattle.std.specs.Prelude.{◌≡◌, ◌+◌, ◌^◌, ◌<◌, ◌≤◌, map, length, IfOk, IfErr, OnOk, MatchResult};
-ghost use Rattle.ix_sections.specs.declared.fault.CarKind.TheVariants.{Memory};
 ghost use Rattle.ix_sections.specs.Gives.{IsFaultOf};
 ghost use Rattle.ix_sections.specs.SectionView.{section_of};
 ghost use Rattle.ix_sections.specs.Sections.{section_list};
@@ -10,7 +9,7 @@ ghost use Rattle.ix_verify.specs.declared.found.Scope.TheVariants.{Sections as O
 ghost use Rattle.ix_verify.specs.Outcome.{section_finding};
 ghost use Rattle.ix_verify.specs.Noting.{NotesMore};
 ghost use Rattle.ix_verify.specs.Found.{unsound_of, IsFoundBeside, IsFoundFor, IsFoundOf, IsFileFault};
-ghost use Rattle.ix_verify.specs.Counted.{told_if, told_among, findings_of, IsJudgedOf, IsBatchAt, IsBatchFault};
+ghost use Rattle.ix_verify.specs.Counted.{told_if, told_among, findings_of, IsJudgedOf};
 
 use crate::found::{Findings, Scope, Unsound};
 use crate::noted::Noted;
@@ -20,19 +19,13 @@ use crate::reach::{Reached, walk_given, walk_roots};
 use crate::section::verdicts_with_store;
 use ix_check::Verdict;
 use ix_cid::Cid;
-use ix_sections::{CarBytes, CarFault, CarKind, Section, read_header, read_section};
+use ix_sections::{CarBytes, CarFault, Section, read_batch, read_header};
 use ix_store::Store;
 use ix_verdict::AllowMissing;
 use ix_walk::Job;
 use std::alloc::{AllocError, Global};
 use std::num::NonZeroUsize;
 use std::thread::Threads;
-
-// How many sections are checked at a time: the store is never in memory together with a list of all sections. The
-// last one begins before so many bytes of the batch.
-const BATCH: usize = 65_536;
-
-const BATCH_BYTES: usize = 64 * 1024 * 1024;
 
 /// Verifies a CARv1 file, whose sections are hashed by at most so many threads. An error is the file's first
 /// one, which is that of `read_car`. All sections that aren't sound and all links that lead to nothing sound
@@ -55,7 +48,7 @@ pub fn verify<R: Threads + Sync>(
     ensures refused { IfErr result (IsFileFault car.items) }
 {
     let Ok(car) = CarBytes::whole(alloc, car) else {
-        return Err(no_memory(0));
+        return Err(CarFault::no_memory(0));
     };
     match scope {
         Scope::Sections => verify_sections(rt, alloc, &car, threads, most, &Unobserved),
@@ -125,7 +118,7 @@ pub fn verify_beside<R: Threads + Sync, V: Observer>(
         observer,
     ) {
         Ok(reached) => Ok(judged.with(reached, later_count)),
-        Err(_) => Err(no_memory(0)),
+        Err(_) => Err(CarFault::no_memory(0)),
     }
 }
 
@@ -173,7 +166,7 @@ pub fn verify_job<R: Threads + Sync, V: Observer>(
     )?;
     match walk_given(alloc, store, allowed, job, most, observer) {
         Ok(reached) => Ok(judged.with(reached, 0)),
-        Err(_) => Err(no_memory(0)),
+        Err(_) => Err(CarFault::no_memory(0)),
     }
 }
 
@@ -217,14 +210,16 @@ fn judge_file<R: Threads + Sync, V: Observer>(
     let mut rest = sections;
     let mut count = 0;
     let mut unsound = Noted::new(alloc);
+    let mut spare = Vec::new(alloc);
     while !rest.is_empty() {
-        let (batch, after) = read_batch(alloc, car.len(), rest)?;
+        let (batch, after) = read_batch(spare, car.len(), rest)?;
         let from = (beside.0, count, beside.1);
         if judge_sections(rt, alloc, from, batch.as_slice(), most, &mut unsound).is_err() {
-            return Err(no_memory(0));
+            return Err(CarFault::no_memory(0));
         }
         observer.on_sections(batch.len());
         count += batch.len();
+        spare = batch;
         rest = after;
     }
     Ok(Judged {
@@ -232,39 +227,6 @@ fn judge_file<R: Threads + Sync, V: Observer>(
         sections: count,
         unsound,
     })
-}
-
-// Reads a batch of sections at most from the front of some bytes, which end a file of `size` bytes. The answer is the
-// sections and the bytes after them.
-fn read_batch(
-    alloc: Global,
-    size: usize,
-    bytes: &[u8],
-) -> Result<(Vec<Section<'_>>, &[u8]), CarFault>
-    requires some { 0 < length bytes.now }
-    requires within { length bytes.now ≤ size }
-    ensures read { IfOk result (IsBatchAt size bytes.now) }
-    ensures refused { IfErr result (IsBatchFault size bytes.now) }
-{
-    let mut rest = bytes;
-    let mut batch = Vec::new(alloc);
-    while !rest.is_empty() && batch.len() < BATCH && bytes.len() - rest.len() < BATCH_BYTES {
-        let (section, after) = read_section(size, rest)?;
-        let Ok(()) = batch.push(section) else {
-            return Err(no_memory(size - rest.len()));
-        };
-        rest = after;
-    }
-    Ok((batch, rest))
-}
-
-fn no_memory(place: usize) -> CarFault
-    ensures { result ≡ record { kind = Memory; place = place } }
-{
-    CarFault {
-        kind: CarKind::Memory,
-        place,
-    }
 }
 
 // Records the sections that aren't sound. If there is a store, it may have the first section at this

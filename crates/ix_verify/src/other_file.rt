@@ -10,7 +10,7 @@ ghost use Rattle.ix_verify.specs.Beside.{sections_read, blocks_beside, with_copi
 ghost use Rattle.ix_verdict.specs.AllowMissing.{allow_none};
 ghost use Rattle.ix_verify.specs.Found.{with_files};
 
-use ix_sections::{BlockLoader, CarBytes, CarFault, CarKind, Copies, SoundLoader, read_sections};
+use ix_sections::{BlockLoader, CarBytes, CarFault, Copies, SoundLoader, read_sections};
 use ix_store::{SoundStore, Store};
 use ix_verdict::AllowMissing;
 use std::alloc::{AllocError, Global};
@@ -147,10 +147,7 @@ fn load_first<R: Threads + Sync>(
     };
     match load_others(rt, first, others, threads) {
         Ok(store) => Ok((store, 0)),
-        Err(_) => Err(CarFault {
-            kind: CarKind::Memory,
-            place: 0,
-        }),
+        Err(_) => Err(CarFault::no_memory(0)),
     }
 }
 
@@ -171,10 +168,7 @@ fn load_sound<R: Threads + Sync>(
     };
     match load_sound_others(rt, first, others, threads) {
         Ok(built) => Ok((built.store, built.later_count)),
-        Err(_) => Err(CarFault {
-            kind: CarKind::Memory,
-            place: 0,
-        }),
+        Err(_) => Err(CarFault::no_memory(0)),
     }
 }
 

@@ -1,13 +1,12 @@
 //! The number of CIDs that occurred before.
 
-ghost use Rattle.std.specs.Prelude.{◌≡◌, ◌≤◌, length, drop, IfOk, IfErr};
+ghost use Rattle.std.specs.Prelude.{◌≤◌, length, drop, IfOk, IfErr};
 ghost use Rattle.std.specs.Arc.{arc_value};
 ghost use Rattle.ix_sections.specs.Gives.{IsFaultOf};
 ghost use Rattle.ix_sections.specs.Sections.{section_list};
-ghost use Rattle.ix_sections.specs.declared.fault.CarKind.TheVariants.{Memory};
 ghost use Rattle.ix_verify.specs.Tallied.{HasDistinct};
 
-use ix_sections::{BlockLoader, CarFault, CarKind};
+use ix_sections::{BlockLoader, CarFault};
 use std::alloc::Global;
 use std::sync::Arc;
 use std::thread::Threads;
@@ -29,16 +28,6 @@ pub(crate) fn distinct_in<R: Threads + Sync>(
     let loader = BlockLoader::new(alloc).with_shared_by(rt, file, start, threads)?;
     match loader.finish_by(rt, threads) {
         Ok(store) => Ok(store.len()),
-        Err(_) => Err(no_memory(file.len() - start)),
-    }
-}
-
-/// Returns the error of memory that ran out at this offset.
-pub(crate) fn no_memory(place: usize) -> CarFault
-    ensures { result ≡ record { kind = Memory; place = place } }
-{
-    CarFault {
-        kind: CarKind::Memory,
-        place,
+        Err(_) => Err(CarFault::no_memory(file.len() - start)),
     }
 }

@@ -7,7 +7,7 @@ ghost use Rattle.ix_sections.specs.Sections.{SectionMeaning, section_list};
 ghost use Rattle.ix_sections.specs.SectionView.{section_of};
 ghost use Rattle.ix_verify.specs.Tallied.{IsTallied, Summarizes, HasTallied};
 
-use crate::repeats::{distinct_in, no_memory};
+use crate::repeats::distinct_in;
 use crate::tally::{Tally, count_in};
 use ix_sections::{CarFault, Section, read_header, read_section};
 use std::alloc::{AllocError, Global};
@@ -103,7 +103,7 @@ pub fn summary_of<R: Threads + Sync>(
     summary.repeated = summary.sections - distinct;
     match summary.sizes.sort() {
         Ok(()) => Ok(summary),
-        Err(_) => Err(no_memory(0)),
+        Err(_) => Err(CarFault::no_memory(0)),
     }
 }
 
@@ -118,7 +118,7 @@ fn tallied(alloc: Global, bytes: &[u8]) -> Result<Summary, CarFault>
     while !rest.is_empty() {
         let (section, after) = read_section(bytes.len(), rest)?;
         let Ok(()) = summary.add(&section) else {
-            return Err(no_memory(section.place));
+            return Err(CarFault::no_memory(section.place));
         };
         rest = after;
     }

@@ -1,4 +1,4 @@
-use Rattle.ix_known.proofs.KnownBlocks.{are-known_blocks}
+use Rattle.ix_known.proofs.KnownCopies.{are-known_blocks}
 use Rattle.ix_known.proofs.law.known_blocks_are_known.Goals as goal
 
 pub returns : goal.returns

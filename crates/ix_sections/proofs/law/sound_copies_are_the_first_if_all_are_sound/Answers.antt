@@ -1,4 +1,4 @@
-use Rattle.ix_sections.proofs.Copies.{preferred-first, preferred-none-later}
+use Rattle.ix_sections.proofs.CopyLists.{preferred-first, preferred-none-later}
 use Rattle.ix_sections.proofs.law.sound_copies_are_the_first_if_all_are_sound.Goals as goal
 
 pub returns-clause-same : goal.returns-clause-same

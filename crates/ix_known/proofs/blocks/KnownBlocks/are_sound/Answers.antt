@@ -1,6 +1,6 @@
 use Rattle.std.proofs.Common.{subst}
 use Rattle.ix_known.specs.Known.{AreSound}
-use Rattle.ix_known.proofs.KnownBlocks.{known-sound_of}
+use Rattle.ix_known.proofs.KnownCopies.{known-sound_of}
 use Rattle.ix_known.proofs.blocks.KnownBlocks.are_sound.Goals as goal
 
 pub returns : goal.returns

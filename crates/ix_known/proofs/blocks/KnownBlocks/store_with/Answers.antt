@@ -1,5 +1,5 @@
 use Rattle.std.proofs.Common.{sym, ◌∙◌}
-use Rattle.ix_known.proofs.KnownBlocks.{known-none, known-lacks, known-there}
+use Rattle.ix_known.proofs.KnownCopies.{known-none, known-lacks, known-there}
 use Rattle.ix_known.proofs.blocks.KnownBlocks.store_with.Goals as goal
 
 pub returns-then-knows : goal.returns-then-knows

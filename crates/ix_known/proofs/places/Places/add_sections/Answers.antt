@@ -14,7 +14,7 @@ returns-in_err-batch-clause-refused g c =
 
 pub loop-rest-preserved : goal.loop-rest-preserved
 loop-rest-preserved g c =
-    read-more c.args.store.now c.args.self.now c.loop-rest.self c.args.sections.now c.loop-rest.rest.now c.loop-rest.invariant c.add_batch-added.new.self c.in_ok-batch.batch c.in_ok-batch.after c.in_ok-batch.ensures.read
+    read-more c.args.store.now c.args.self.now c.loop-rest.self c.args.sections.now c.loop-rest.rest.now c.loop-rest.invariant c.args.size c.add_batch-added.new.self c.in_ok-batch.batch c.in_ok-batch.after c.in_ok-batch.ensures.read
     (rw (sym c.as_slice.ensures.value) c.in-Ok.ensures)
 
 pub returns-clause-added : goal.returns-clause-added

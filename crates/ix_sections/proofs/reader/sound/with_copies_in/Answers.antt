@@ -3,7 +3,7 @@ use Rattle.std.specs.Prelude.{Ok}
 use Rattle.std.specs.Arc.{arc_value}
 use Rattle.ix_sections.specs.declared.fault.CarFault.{CarFault}
 use Rattle.ix_sections.specs.Reading.{header_at}
-use Rattle.ix_sections.proofs.Copies.{copies-listed, rest-from, fails-from_front}
+use Rattle.ix_sections.proofs.CopyLists.{copies-listed, rest-from, fails-from_front}
 use Rattle.ix_sections.proofs.reader.sound.with_copies_in.Goals as goal
 
 pub fault_in-requires-in-Err-with_copies_of : goal.fault_in-requires-in-Err-with_copies_of

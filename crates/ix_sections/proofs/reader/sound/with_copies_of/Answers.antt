@@ -9,7 +9,7 @@ use Rattle.ix_sections.specs.Sections.{sections_in}
 use Rattle.ix_sections.specs.Copies.{with_copies}
 use Rattle.ix_sections.proofs.Sections.{end-of-end, end-behind, end-within, PartsStand, parts-stand, HasFile, file-taken, section-of}
 use Rattle.ix_sections.proofs.SectionLists.{FailsAs-of}
-use Rattle.ix_sections.proofs.Copies.{CopiesGoOn, CopiesGoOn-first, CopiesGoOn-more, CopiesGoOn-fails, CopiesGoOn-last}
+use Rattle.ix_sections.proofs.CopyLists.{CopiesGoOn, CopiesGoOn-first, CopiesGoOn-more, CopiesGoOn-fails, CopiesGoOn-last}
 use Rattle.ix_sections.proofs.reader.sound.with_copies_of.Goals as goal
 
 pub loop-rest-init : goal.loop-rest-init

@@ -3,7 +3,7 @@ use Rattle.std.specs.Arc.{arc_value}
 use Rattle.ix_sections.specs.Sections.{sections_in}
 use Rattle.ix_sections.specs.Reads.{IsEnd}
 use Rattle.ix_sections.proofs.Sections.{HasFile}
-use Rattle.ix_sections.proofs.Copies.{CopiesGoOn}
+use Rattle.ix_sections.proofs.CopyLists.{CopiesGoOn}
 use Rattle.ix_sections.proofs.reader.sound.with_copies_of.Given as goal
 
 abbrev pub invariant-loop-rest : goal.invariant-loop-rest

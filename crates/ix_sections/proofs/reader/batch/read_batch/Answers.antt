@@ -1,13 +1,13 @@
 use Rattle.std.proofs.Common.{◌<◌, ◌-◌, ◌∷◌, [], length, length-append, ap, arith, rules}
 use Rattle.std.proofs.lemmas.Result.{err_from_is_err_and}
 use Rattle.ix_sections.proofs.Sections.{section_at-shorter}
-use Rattle.ix_verify.proofs.Batches.{reads-first, reads-more, reads-fault}
-use Rattle.ix_verify.proofs.file.read_batch.Goals as goal
+use Rattle.ix_sections.proofs.Batches.{reads-first, reads-more, reads-fault}
+use Rattle.ix_sections.proofs.reader.batch.read_batch.Goals as goal
 
 pub loop-batch-init : goal.loop-batch-init
 loop-batch-init c = record {
-  room = omega (arith, ap length c.new-batch.ensures.items);
-  reads_on = rw c.new-batch.ensures.items (reads-first c.args.size c.args.bytes.now);
+  room = omega (arith, ap length c.clear.ensures.items);
+  reads_on = rw c.clear.ensures.items (reads-first c.args.size c.args.bytes.now);
 }
 
 pub returns-in_err-section-clause-refused : goal.returns-in_err-section-clause-refused

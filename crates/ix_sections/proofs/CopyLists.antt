@@ -70,7 +70,7 @@ fails-from_front e kind left slice file meant whole is same within means fails =
 -- ---- the law
 
 -- the blocks of sections are the first of their copies
-with_copies-sections : (store : Blocks) (sections : List SectionMeaning) → with_blocks store (copies_of sections) ≡ with_sections store sections
+pub with_copies-sections : (store : Blocks) (sections : List SectionMeaning) → with_blocks store (copies_of sections) ≡ with_sections store sections
 with_copies-sections store [] = refl
 with_copies-sections store (s ∷ sections) = with_copies-sections (with_block store (s.cid, s.block)) sections
 
