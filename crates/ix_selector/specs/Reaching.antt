@@ -108,6 +108,10 @@ abbrev pub AreLeftIn : List SelectorNode → List State → Type 0
 AreLeftIn nodes xs =
     IsTable nodes × All (IsState nodes) xs × All (IsStanding nodes) xs × (length xs ≤ length nodes)
 
+-- and these places are those that are shared
+abbrev pub AreLeftInShared : List SelectorNode → List SelectorNode → List State → Type 0
+AreLeftInShared shared nodes xs = (shared ≡ nodes) × AreLeftIn nodes xs
+
 -- each step from the state x leaves the state y
 pub record EachStepLeavesState (nodes : List SelectorNode) (x y : State) : Type 0 where
   pub states : AreStandingStates nodes (y ∷ [])

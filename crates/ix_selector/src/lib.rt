@@ -2,7 +2,8 @@
 //!
 //! Data are read as a selector exactly if they are one of its spellings and it obeys the rules on
 //! edges and nesting; otherwise the first error is returned. A residual is what remains of a
-//! selector at a place: a step can be taken exactly if the selector enters that child.
+//! selector at a place: a step can be taken exactly if the selector enters that child. It borrows the
+//! selector, and an owned residual doesn't.
 //!
 //! ```rust
 //! // {"f":{"f>":{"album":{".":{}}}}}: the field `album` alone.
@@ -19,6 +20,7 @@ mod fault;
 mod kept;
 pub mod law;
 mod merge;
+mod owned_residual;
 mod reached;
 mod read;
 mod reentry;
@@ -32,6 +34,7 @@ mod stepping;
 mod steps;
 
 pub use fault::{Form, SelFault};
+pub use owned_residual::OwnedResidual;
 pub use residual::Residual;
 pub use selector::Selector;
 pub use step::Step;

@@ -2,12 +2,17 @@
 
 ghost use Rattle.std.specs.Prelude.{◌≡◌, [], IfOk, IfSome, IfNone};
 ghost use Rattle.ix_selector.specs.Residual.{ResidualEnters, EntersAs, IsTestedAs, EntersAfter, LeavesOut, step_of, IsAfter};
+ghost use Rattle.std.specs.Arc.{arc_value};
 ghost use Rattle.std.specs.Bool.{OnTrue};
 ghost use Rattle.ix_selector.specs.Alike.{LookAtNoStep};
+ghost use Rattle.ix_selector.specs.Kept.{kept_states};
+ghost use Rattle.ix_selector.specs.States.{seen_states};
+ghost use Rattle.ix_selector.specs.Reaching.{AreLeftIn};
 ghost use Rattle.ix_selector.specs.Behind.{residual_of, IsLeftAfter, NothingIsLeftAfter, same_residual, residual_order};
 
 use crate::kept::Kept;
 use crate::merge::merge;
+use crate::owned_residual::OwnedResidual;
 use crate::reached::{Reached, close_over};
 use crate::selector::Selector;
 use crate::selector_node::SelectorNode;
@@ -17,12 +22,15 @@ use crate::stepping::{derivative, look_at_no_step};
 use std::alloc::{AllocError, Global};
 use std::cmp::Ordering;
 use std::marker::Model;
+use std::sync::Arc;
 
 /// The residual of a selector at a place, its derivative: a set of selectors inside recursions.
 ///
 /// No two of them have one place of the selector, so there are at most as many as the selector has
 /// places. A step that leaves the same shares them.
 pub struct Residual<'s> {
+    // Owns the nodes. An owned residual shares them.
+    shared: &'s Arc<Vec<SelectorNode>>,
     nodes: &'s [SelectorNode],
     states: Kept,
 }
@@ -30,16 +38,21 @@ pub struct Residual<'s> {
 // Written by hand: a derived drop is inlined in each function that drops one, at each of its exits.
 impl<'s> Drop for Residual<'s> {
     fn drop(self) {
-        let Residual { nodes: _, states } = self;
+        let Residual {
+            shared: _,
+            nodes: _,
+            states,
+        } = self;
         drop(states);
     }
 }
 
 impl<'s> Model for Residual<'s> {
     ghost use Rattle.std.specs.Prelude.{List, map};
+    ghost use Rattle.std.specs.Arc.{arc_value};
     ghost use Rattle.ix_selector.specs.States.{place_of};
     ghost use Rattle.ix_selector.specs.Residual.{Place, coded_places};
-    ghost use Rattle.ix_selector.specs.Reaching.{AreLeftIn};
+    ghost use Rattle.ix_selector.specs.Reaching.{AreLeftInShared};
     ghost use Rattle.ix_selector.specs.Kept.{kept_states};
 
     ghost Value = { List Place };
@@ -48,7 +61,7 @@ impl<'s> Model for Residual<'s> {
 
     ghost view = { λ r. map (place_of r.nodes.now) (kept_states r.states) };
 
-    ghost invariant = { λ r. AreLeftIn r.nodes.now (kept_states r.states) };
+    ghost invariant = { λ r. AreLeftInShared (arc_value r.shared.now).items r.nodes.now (kept_states r.states) };
 }
 
 impl<'s> Residual<'s> {
@@ -58,7 +71,7 @@ impl<'s> Residual<'s> {
         ensures tested { IfOk result (IsTestedAs selector.now) }
         ensures exact { IfOk result (λ r. r ≡ residual_of selector.now) }
     {
-        let (nodes, place) = selector.places();
+        let (shared, nodes, place) = selector.places();
         let mut reached = Reached::new(alloc);
         let root = State {
             place,
@@ -67,7 +80,11 @@ impl<'s> Residual<'s> {
         close_over(nodes, root, &mut reached)?;
         merge(alloc, &mut reached.explore)?;
         let states = Kept::new(alloc, reached.explore)?;
-        Ok(Residual { nodes, states })
+        Ok(Residual {
+            shared,
+            nodes,
+            states,
+        })
     }
 
     /// Returns the residual after a step, or `None` if the child isn't entered. Fails if memory
@@ -86,7 +103,11 @@ impl<'s> Residual<'s> {
             return Ok(None);
         }
         let states = self.states.or_shared(alloc, states)?;
-        Ok(Some(Residual { nodes, states }))
+        Ok(Some(Residual {
+            shared: self.shared,
+            nodes,
+            states,
+        }))
     }
 
     /// Clones the residual. Fails if memory runs out.
@@ -95,9 +116,37 @@ impl<'s> Residual<'s> {
     {
         let states = self.states.try_clone(alloc)?;
         Ok(Residual {
+            shared: self.shared,
             nodes: self.nodes,
             states,
         })
+    }
+
+    /// Returns the same residual, which owns a share of the selector's places in place of a borrow.
+    /// Fails if memory runs out, or the places have too many owners to count.
+    pub fn into_owned(self) -> Result<OwnedResidual, AllocError>
+        ensures same { IfOk result (λ r. r ≡ self.entry) }
+    {
+        let nodes = Arc::try_clone(self.shared)?;
+        let Residual {
+            shared: _,
+            nodes: _,
+            states,
+        } = self;
+        Ok(OwnedResidual::of(nodes, states))
+    }
+
+    /// Makes a residual of these states, at the places that the owner has.
+    pub(crate) fn of(shared: &'s Arc<Vec<SelectorNode>>, states: Kept) -> Residual<'s>
+        requires { AreLeftIn (arc_value shared.now).items (kept_states states) }
+        ensures { result ≡ seen_states (arc_value shared.now).items (kept_states states) }
+    {
+        let nodes = shared.as_slice();
+        Residual {
+            shared,
+            nodes,
+            states,
+        }
     }
 
     /// Whether its states can be shared.

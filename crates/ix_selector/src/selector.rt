@@ -1,6 +1,7 @@
 //! Selectors that obey the rules on edges.
 
 ghost use Rattle.std.specs.Prelude.{◌≡◌, IfOk};
+ghost use Rattle.std.specs.Arc.{arc_value};
 ghost use Rattle.ix_selector.specs.Pattern.{pattern_of, matcher, everything, IsSelector};
 ghost use Rattle.ix_selector.specs.Reading.{selector_of};
 ghost use Rattle.ix_selector.specs.Laid.{IsTable, IsRootOf, IsSound};
@@ -14,12 +15,14 @@ use crate::selector_node::{SelectorNode, push_nodes};
 use ix_cbor::Tree;
 use std::alloc::{AllocError, Global};
 use std::marker::Model;
+use std::sync::Arc;
 
 /// A selector in which every edge is in a recursion with a step between, and which nests at most
 /// 128 deep.
 #[derive(Debug)]
 pub struct Selector {
-    nodes: Vec<SelectorNode>,
+    // Shared with the residuals that own them.
+    nodes: Arc<Vec<SelectorNode>>,
     root: usize,
 }
 
@@ -32,6 +35,7 @@ impl Drop for Selector {
 }
 
 impl Model for Selector {
+    ghost use Rattle.std.specs.Arc.{arc_value};
     ghost use Rattle.ix_selector.specs.Pattern.{Pattern};
     ghost use Rattle.ix_selector.specs.PatternCode.{coded_pattern};
     ghost use Rattle.ix_selector.specs.Places.{at, places_of};
@@ -41,9 +45,9 @@ impl Model for Selector {
 
     ghost coded = { coded_pattern };
 
-    ghost view = { λ s. at (places_of s.nodes.items) s.root };
+    ghost view = { λ s. at (places_of (arc_value s.nodes).items) s.root };
 
-    ghost invariant = { λ s. IsTableOf s.nodes.items s.root };
+    ghost invariant = { λ s. IsTableOf (arc_value s.nodes).items s.root };
 }
 
 // Reads the tree of a selector from data.
@@ -109,16 +113,18 @@ impl Selector {
     {
         let mut nodes = Vec::new(alloc);
         let root = push_nodes(alloc, sel, &mut nodes)?;
+        let nodes = Arc::new(alloc, nodes)?;
         Ok(Selector { nodes, root })
     }
 
-    /// Its places, and the number of its own.
-    pub(crate) fn places(&self) -> (&[SelectorNode], usize)
-        ensures table { IsTable result.0.now }
-        ensures whole { result.1 ≡ inside_of self.now }
-        ensures root { IsRootOf result.0.now self.now result.1 }
+    /// Its places, with their owner, and the number of its own.
+    pub(crate) fn places(&self) -> (&Arc<Vec<SelectorNode>>, &[SelectorNode], usize)
+        ensures shared { (arc_value result.0.now).items ≡ result.1.now }
+        ensures table { IsTable result.1.now }
+        ensures whole { result.2 ≡ inside_of self.now }
+        ensures root { IsRootOf result.1.now self.now result.2 }
         ensures selector { IsSelector self.now }
     {
-        (self.nodes.as_slice(), self.root)
+        (&self.nodes, self.nodes.as_slice(), self.root)
     }
 }
