@@ -6,8 +6,7 @@ ghost use Rattle.ix_check.specs.Visits.{IsUnused, IsVisitOf};
 
 use crate::history::History;
 use ix_cid::Cid;
-use ix_cid::code::DAG_CBOR;
-use ix_store::{Store, has_fault};
+use ix_store::{Store, verdict_at};
 use ix_verdict::{Needed, Verdict, bytes_needed};
 use ix_walk::Visit;
 use std::alloc::{AllocError, Global};
@@ -122,18 +121,7 @@ impl Check for PlainCheck {
 pub fn verdict_in(store: &Store, cid: &Cid) -> Verdict
     ensures { result ≡ verdict_of store.now cid.now }
 {
-    let parts = cid.parts();
-    match bytes_needed(&parts) {
-        Needed::Nothing(verdict) => verdict,
-        Needed::Digest => Verdict::of_inline(parts.codec == DAG_CBOR && has_fault(parts.digest)),
-        Needed::Block(_) => match store.find(cid) {
-            None => Verdict::Missing,
-            Some(place) => Verdict::of_block(
-                store.hash_matches(place),
-                parts.codec == DAG_CBOR && store.is_malformed(place),
-            ),
-        },
-    }
+    verdict_at(store, cid, store.find(cid))
 }
 
 // Returns the first verdict that holds of a visit's CID. The visit says whether its bytes are valid

@@ -9,7 +9,7 @@ use Rattle.std.proofs.lemmas.Result.{on_ok_weaker}
 use Rattle.std.proofs.lemmas.Slice.Eq.{bytes_eq-Decides}
 use Rattle.ix_verdict.specs.Verdict.{verdict_with, is_sound}
 use Rattle.ix_store.specs.Store.{Blocks, has_cid, position_of, with_blocks}
-use Rattle.ix_store.specs.Sound.{verdict_of}
+use Rattle.ix_store.specs.Sound.{verdict_of_copy}
 use Rattle.ix_store.specs.declared.places.PlaceSet.{PlaceSet}
 use Rattle.ix_store.specs.PlaceSet.{contains_place, HasOneMoreThan}
 use Rattle.ix_store.proofs.Gathered.{with_blocks-push}
@@ -79,7 +79,7 @@ module _ (store base : Blocks) (p : List ℕ × List ℕ) where
     known-this false new old n put same none = ap (λ (s : PlaceSet). contains_place s n) put ∙ none
 
     -- the first copy of a block
-    first-copy : (sound : Bool) (old new : Places) → sound ≡ is_sound (verdict_of p) → has_cid base p.0 ≡ false → HasOneMoreThan new.decided old.decided place → IsPutIf (Some sound) old.known new.known place
+    first-copy : (sound : Bool) (old new : Places) → sound ≡ is_sound (verdict_of_copy p) → has_cid base p.0 ≡ false → HasOneMoreThan new.decided old.decided place → IsPutIf (Some sound) old.known new.known place
         → ArePlacesOf store base old → ArePlacesOf store (base ++ p ∷ []) new
     first-copy sound old new is fresh decided known h = record {
       known = λ c n at. ⊎_elim (λ same.
@@ -93,7 +93,7 @@ module _ (store base : Blocks) (p : List ℕ × List ℕ) where
     }
 
     -- a copy of a block, the first or a later one
-    pub copied : (sound : Bool) (old new : Places) → sound ≡ is_sound (verdict_of p) → IsDecided old new place sound → ArePlacesOf store base old → ArePlacesOf store (with_blocks base (p ∷ [])) new
+    pub copied : (sound : Bool) (old new : Places) → sound ≡ is_sound (verdict_of_copy p) → IsDecided old new place sound → ArePlacesOf store base old → ArePlacesOf store (with_blocks base (p ∷ [])) new
     copied sound old new is decided h = by (contains_place old.decided place) refl where
       First : Type 0
       First = HasOneMoreThan new.decided old.decided place × IsPutIf (Some sound) old.known new.known place

@@ -8,7 +8,7 @@ use Rattle.ix_cid.specs.Cid.{parts_of, digest_of, hash_function_of}
 use Rattle.ix_cbor.specs.Reading.{data_at}
 use Rattle.ix_verdict.specs.Verdict.{verdict_with, is_sound}
 use Rattle.ix_store.specs.Store.{Blocks, has_cid, block_of, with_block, with_blocks, HasDistinctCids, bytes_by, is_dag_cbor, value_of}
-use Rattle.ix_store.specs.Sound.{first_copies, verdict_of as verdict_of_copy}
+use Rattle.ix_store.specs.Sound.{first_copies, verdict_of_copy}
 use Rattle.ix_store.proofs.Stores.{distinct-push}
 use Rattle.ix_known.specs.Known.{knows, known_blocks, known_blocks_of, AreSound, AreKnownBlocks}
 use Rattle.ix_known.proofs.Lists.{has-block, block-left, blocks-first}

@@ -1,7 +1,7 @@
 -- What a section of a base says of the blocks of a store.
 use Rattle.std.specs.Prelude.{◌≡◌, ℕ, true, List, [], ◌∷◌, Some, IfSome, slice_get}
 use Rattle.ix_store.specs.Store.{Blocks, position_of}
-use Rattle.ix_store.specs.Sound.{verdict_of}
+use Rattle.ix_store.specs.Sound.{verdict_of_copy}
 use Rattle.ix_store.specs.declared.places.PlaceSet.{PlaceSet}
 use Rattle.ix_store.specs.PlaceSet.{contains_place}
 use Rattle.ix_sections.specs.declared.reader.sections.Section.{Section}
@@ -20,7 +20,7 @@ pair_of s = copy_of (section_of s)
 -- what is found of a CID and its block, beside what is decided
 abbrev pub IsFinding : Blocks → PlaceSet → List ℕ × List ℕ → Finding → Type 0
 IsFinding store decided p Nothing = (place : ℕ) → position_of store p.0 ≡ Some place → contains_place decided place ≡ true
-IsFinding store decided p (CopyOf place sound) = (position_of store p.0 ≡ Some place) × (sound ≡ is_sound (verdict_of p))
+IsFinding store decided p (CopyOf place sound) = (position_of store p.0 ≡ Some place) × (sound ≡ is_sound (verdict_of_copy p))
 IsFinding store decided p NoMemory = Unit {0}
 
 -- what is found of the one with this number, if there is one

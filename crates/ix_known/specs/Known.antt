@@ -3,7 +3,7 @@ use Rattle.std.specs.Prelude.{◌≡◌, ℕ, Bool, true, false, List, [], Optio
 use Rattle.std.specs.List.{AllByRecursion}
 use Rattle.std.specs.Borrow.{Bor}
 use Rattle.ix_store.specs.Store.{Blocks, block_of, has_cid, position_of}
-use Rattle.ix_store.specs.Sound.{first_copies, verdict_of as verdict_of_copy}
+use Rattle.ix_store.specs.Sound.{first_copies, verdict_of_copy}
 use Rattle.ix_store.specs.declared.places.PlaceSet.{PlaceSet}
 use Rattle.ix_store.specs.PlaceSet.{contains_place, HasOneMoreThan}
 use Rattle.ix_check.specs.Verdict.{verdict_of}

@@ -2,16 +2,13 @@
 
 ghost use Rattle.std.specs.Prelude.{◌≡◌, ◌<◌, ℕ, Some, length, map, slice_index_or, IfOk};
 ghost use Rattle.ix_store.specs.Store.{position_of};
-ghost use Rattle.ix_store.specs.Sound.{verdict_of};
+ghost use Rattle.ix_store.specs.Sound.{verdict_of_copy};
 ghost use Rattle.ix_verdict.specs.Verdict.{is_sound};
-ghost use Rattle.ix_check.specs.Verdict.{verdict_of as stored_verdict};
 ghost use Rattle.ix_known.specs.Findings.{pair_of, IsFinding, IsFindingAt};
 
 use ix_cid::Cid;
-use ix_cid::code::DAG_CBOR;
 use ix_sections::Section;
-use ix_store::{PlaceSet, Store, has_fault, map_interleaved, verdict_on};
-use ix_verdict::{Needed, Verdict, bytes_needed};
+use ix_store::{PlaceSet, Store, map_interleaved, verdict_at, verdict_on};
 use std::alloc::{AllocError, Global};
 use std::thread::Threads;
 
@@ -98,26 +95,10 @@ fn finding_of(alloc: Global, lookup: &Lookup<'_>, guess: usize, section: &Sectio
 // is the very block of the store, the store hashes it, once for all, and caches what it finds.
 fn is_sound_copy(store: &Store, place: usize, cid: &Cid, block: &[u8]) -> bool
     requires { position_of store.now cid.now ≡ Some place }
-    ensures { result ≡ is_sound (verdict_of (cid.now, block.now)) }
+    ensures { result ≡ is_sound (verdict_of_copy (cid.now, block.now)) }
 {
     if store.bytes(place) == block {
-        return verdict_at(store, place, cid).is_sound();
+        return verdict_at(store, cid, Some(place)).is_sound();
     }
     verdict_on(cid.as_bytes(), block).is_sound()
-}
-
-// Returns the verdict on a CID, whose block is at this position of a store.
-fn verdict_at(store: &Store, place: usize, cid: &Cid) -> Verdict
-    requires { position_of store.now cid.now ≡ Some place }
-    ensures { result ≡ stored_verdict store.now cid.now }
-{
-    let parts = cid.parts();
-    match bytes_needed(&parts) {
-        Needed::Nothing(verdict) => verdict,
-        Needed::Digest => Verdict::of_inline(parts.codec == DAG_CBOR && has_fault(parts.digest)),
-        Needed::Block(_) => Verdict::of_block(
-            store.hash_matches(place),
-            parts.codec == DAG_CBOR && store.is_malformed(place),
-        ),
-    }
 }

@@ -21,7 +21,7 @@ use Rattle.ix_verdict.specs.declared.verdict.Verdict.{Verdict}
 use Rattle.ix_verdict.specs.declared.verdict.Verdict.TheVariants.{Codec, Hash, Missing, Damaged, Malformed, Sound, Inline}
 use Rattle.ix_verdict.specs.Verdict.{is_no_data, verdict_by, has_codec, passes}
 use Rattle.ix_path.specs.Causes.{goes_by_bytes, IsFirstIn, IsFaultIn, IsWhyMalformed}
-use Rattle.ix_path.specs.Resolution.{verdict_of}
+use Rattle.ix_store.specs.Verdict.{verdict_of}
 
 -- a verdict that passes is by bytes
 pub passing-goes : (v : Verdict) → passes v ≡ true → goes_by_bytes v ≡ true

@@ -16,7 +16,8 @@ use Rattle.ix_cbor.specs.Reading.{Fault, decoded, data_at}
 use Rattle.ix_store.specs.Store.{is_dag_cbor}
 use Rattle.ix_store.proofs.Blocks.{faulty_yes}
 use Rattle.ix_path.specs.Node.{data_in, IsNode}
-use Rattle.ix_path.specs.Resolution.{verdict_of, node_of, sound_node}
+use Rattle.ix_path.specs.Resolution.{node_of, sound_node}
+use Rattle.ix_store.specs.Verdict.{verdict_of}
 
 -- bytes that a CID names, and that are what its codec says
 abbrev Named : List ℕ → Option (List ℕ) → Type 0

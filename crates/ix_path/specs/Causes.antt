@@ -8,7 +8,7 @@ use Rattle.ix_cbor.specs.Fronts.{judged}
 use Rattle.ix_store.specs.Store.{Blocks, bytes_of}
 use Rattle.ix_verdict.specs.declared.verdict.Verdict.{Verdict}
 use Rattle.ix_verdict.specs.declared.verdict.Verdict.TheVariants.{Codec, Hash, Missing, Damaged, Malformed, Sound, Inline}
-use Rattle.ix_path.specs.Resolution.{verdict_of}
+use Rattle.ix_store.specs.Verdict.{verdict_of}
 
 -- whether a verdict is by the bytes that a CID names
 abbrev pub goes_by_bytes : Verdict → Bool

@@ -4,9 +4,9 @@ use Rattle.std.specs.Global.{Vec}
 use Rattle.std.specs.Option.{ok_or}
 use Rattle.ix_cbor.specs.Data.{Data, bytes, link}
 use Rattle.ix_cbor.specs.Reading.{data_at}
-use Rattle.ix_store.specs.Store.{Blocks, block_of, bytes_of, is_dag_cbor}
-use Rattle.ix_verdict.specs.declared.verdict.Verdict.{Verdict}
-use Rattle.ix_verdict.specs.Verdict.{verdict_with, passes}
+use Rattle.ix_store.specs.Store.{Blocks, bytes_of, is_dag_cbor}
+use Rattle.ix_store.specs.Verdict.{verdict_of}
+use Rattle.ix_verdict.specs.Verdict.{passes}
 use Rattle.ix_path.specs.declared.step.PathStep.{PathStep}
 use Rattle.ix_path.specs.Children.{child_of}
 use Rattle.ix_path.specs.declared.obstacle.Obstacle.{Obstacle}
@@ -35,10 +35,6 @@ here d = record { blocks = []; steps = []; end = Ok d }
 -- the node that the bytes of a CID are: the data that they spell, or of a raw block a byte string
 abbrev pub node_of : List ℕ → List ℕ → Option Data
 node_of c b = if is_dag_cbor c then data_at b else Some (bytes b)
-
--- the verdict on a CID in a store
-abbrev pub verdict_of : Blocks → List ℕ → Verdict
-verdict_of store c = let block = block_of store c in verdict_with c block
 
 -- the node that a CID names in a store, if the verdict on the CID passes
 abbrev pub sound_node : Blocks → List ℕ → Option Data

@@ -2,13 +2,14 @@
 
 ghost use Rattle.std.specs.Prelude.{◌≡◌, IfOk, Some, true};
 ghost use Rattle.std.specs.Option.{ok_or};
-ghost use Rattle.ix_cid.specs.Cid.{parts_of, codec_of};
+ghost use Rattle.ix_cid.specs.Cid.{parts_of};
 ghost use Rattle.ix_cid.specs.Parts.{parts_view};
 ghost use Rattle.ix_store.specs.Store.{bytes_of};
 ghost use Rattle.ix_verdict.specs.Needed.{NeedsBlock};
 ghost use Rattle.ix_path.specs.declared.obstacle.Obstacle.TheVariants as obstacles;
 ghost use Rattle.ix_path.specs.Causes.{goes_by_bytes};
-ghost use Rattle.ix_path.specs.Resolution.{◌and_then◌, verdict_of, sound_node, entered, crossed, stepped, followed, resolution, Goes, GoesBy, IsRoute, segments_in};
+ghost use Rattle.ix_path.specs.Resolution.{◌and_then◌, sound_node, entered, crossed, stepped, followed, resolution, Goes, GoesBy, IsRoute, segments_in};
+ghost use Rattle.ix_store.specs.Verdict.{verdict_of};
 
 use crate::child::child;
 use crate::node::PathNode;
@@ -16,7 +17,7 @@ use crate::obstacle::Obstacle;
 use crate::step::PathStep;
 use ix_cid::code::DAG_CBOR;
 use ix_cid::{Cid, CidRef, Parts};
-use ix_store::{Store, has_fault};
+use ix_store::{Store, has_fault, verdict_at};
 use ix_verdict::{Needed, Verdict, bytes_needed};
 use std::alloc::{AllocError, Global};
 
@@ -186,23 +187,20 @@ pub(crate) fn judged<'a>(store: &'a Store, cid: &Cid, parts: &Parts<'a>) -> (Ver
             let malformed = parts.codec == DAG_CBOR && has_fault(parts.digest);
             (Verdict::of_inline(malformed), parts.digest)
         }
-        Needed::Block(_) => block_under(store, cid, parts.codec),
+        Needed::Block(_) => block_under(store, cid),
     }
 }
 
-// Returns the verdict on a CID of this codec that needs a block, and the block, if it is there.
-fn block_under<'a>(store: &'a Store, cid: &Cid, codec: u64) -> (Verdict, &'a [u8])
+// Returns the verdict on a CID that needs a block, and the block, if it is there.
+fn block_under<'a>(store: &'a Store, cid: &Cid) -> (Verdict, &'a [u8])
     requires needed { NeedsBlock cid.now }
-    requires codec { codec ≡ codec_of cid.now }
     ensures verdict { result.0 ≡ verdict_of store.now cid.now }
     ensures bytes { goes_by_bytes result.0 ≡ true → bytes_of store.now cid.now ≡ Some result.1.now }
 {
-    match store.find(cid) {
-        None => (Verdict::Missing, &[]),
-        Some(place) => {
-            let malformed = codec == DAG_CBOR && store.is_malformed(place);
-            let verdict = Verdict::of_block(store.hash_matches(place), malformed);
-            (verdict, store.bytes(place))
-        }
+    let place = store.find(cid);
+    let verdict = verdict_at(store, cid, place);
+    match place {
+        None => (verdict, &[]),
+        Some(place) => (verdict, store.bytes(place)),
     }
 }

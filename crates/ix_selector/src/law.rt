@@ -3,8 +3,6 @@
 ghost use Rattle.ix_selector.specs.Pattern.{IsSelector};
 ghost use Rattle.ix_selector.specs.Laws.{EntersWhatIsTested, TestsWhatIsEntered, ReadsWhatIsSpelled, HasSpelling, SpellsNoOther, NothingIsLeft, LeavesTheRest, SameEntersTheSame};
 
-use crate::owned_residual::OwnedResidual;
-use crate::residual::Residual;
 use crate::selector::Selector;
 
 /// States that `is_entered` decides which paths a selector enters.
@@ -36,13 +34,3 @@ pub fn selector_is_one(selector: &Selector)
 {
     let _places = selector.places();
 }
-
-/// States that threads can have selectors and residuals: each of these types is `Send` and `Sync`.
-pub fn threads_can_have_them(selector: &Selector, residual: &Residual, owned: &OwnedResidual) {
-    can_be_shared(selector);
-    can_be_shared(residual);
-    can_be_shared(owned);
-}
-
-// Takes a value that can go to another thread and be shared.
-fn can_be_shared<T: Send + Sync>(_value: &T) {}

@@ -17,21 +17,21 @@ use Rattle.ix_verdict.specs.declared.verdict.Verdict.TheVariants.{Codec, Damaged
 use Rattle.ix_verdict.specs.Verdict.{verdict_by, has_codec}
 use Rattle.ix_store.specs.Store.{Blocks}
 use Rattle.ix_store.specs.Memo.{Tells, IsTrueWord, AllTrue, hash_matches_by}
-use Rattle.ix_store.specs.Sound.{verdict_of, share_of, AllJudged, word_by, is_hashed, word_of, judged_word}
+use Rattle.ix_store.specs.Sound.{verdict_of_copy, share_of, AllJudged, word_by, is_hashed, word_of, judged_word}
 
 -- ---- many
 
 -- the verdicts up to a pair, and on this pair
 pub judged-more : (pairs : Blocks) (from place : ℕ) (e : List ℕ × List ℕ) (vs : List Verdict) (v : Verdict) → from ≤ place → place < length pairs → slice_get pairs place ≡ Some e
-    → vs ≡ map verdict_of (drop from (take place pairs)) → v ≡ verdict_of e → vs ++ v ∷ [] ≡ map verdict_of (drop from (take (place + 1) pairs))
+    → vs ≡ map verdict_of_copy (drop from (take place pairs)) → v ≡ verdict_of_copy e → vs ++ v ∷ [] ≡ map verdict_of_copy (drop from (take (place + 1) pairs))
 judged-more pairs from place e vs v before within at is this =
     let read : get_or pairs place e ≡ e = get_or_from_slice_get pairs place e e at in
     let more : take (place + 1) pairs ≡ take place pairs ++ e ∷ [] = take_more pairs place e within ∙ ap (λ (x : List ℕ × List ℕ). take place pairs ++ x ∷ []) read in
     let long : length (take place pairs) ≡ place = length-take-le place pairs (omega (arith, within)) in
     ap (λ (l : List Verdict). l ++ v ∷ []) is
-    ∙ ap (λ (x : Verdict). map verdict_of (drop from (take place pairs)) ++ x ∷ []) this
-    ∙ sym (map_push verdict_of (drop from (take place pairs)) e)
-    ∙ ap (map verdict_of) (sym (ap (drop from) more ∙ drop-append-le from (take place pairs) (e ∷ []) (omega (arith, long, before))))
+    ∙ ap (λ (x : Verdict). map verdict_of_copy (drop from (take place pairs)) ++ x ∷ []) this
+    ∙ sym (map_push verdict_of_copy (drop from (take place pairs)) e)
+    ∙ ap (map verdict_of_copy) (sym (ap (drop from) more ∙ drop-append-le from (take place pairs) (e ∷ []) (omega (arith, long, before))))
 
 -- the same part of a list, whether its bounds are cut to the length
 pub same-part : {X : Type 0} (xs : List X) (from to a b : ℕ) → (from ≡ a) ⊎ ((length xs ≤ from) × (length xs ≤ a)) → (to ≡ b) ⊎ ((length xs ≤ to) × (length xs ≤ b))
@@ -44,9 +44,9 @@ same-part xs from to a b first last =
 
 -- the verdicts on a share that could all be found
 pub judged-here : (pairs : Blocks) (share : ℕ) (shares : List (Result (Vec Verdict) AllocError)) (n : ℕ) (r : Result (Vec Verdict) AllocError) (vs : Vec Verdict) → AllJudged pairs share shares → n < length shares → r ≡ get_or shares n r → r ≡ Ok vs
-    → vs.items ≡ map verdict_of (share_of share n pairs)
+    → vs.items ≡ map verdict_of_copy (share_of share n pairs)
 judged-here pairs share shares n r vs all less read is =
-    subst (λ (o : Result (Vec Verdict) AllocError). IfOk o (λ v. v.items ≡ map verdict_of (share_of share n pairs))) (sym read ∙ is) (all n r less)
+    subst (λ (o : Result (Vec Verdict) AllocError). IfOk o (λ v. v.items ≡ map verdict_of_copy (share_of share n pairs))) (sym read ∙ is) (all n r less)
 
 -- the pairs of the shares so far, and of one more
 pub share-more : (pairs : Blocks) (share n : ℕ) → take (n * share) pairs ++ share_of share n pairs ≡ take (n * share + share) pairs
@@ -55,13 +55,13 @@ share-more pairs share n =
     ∙ take-append-drop (n * share) (take (n * share + share) pairs)
 
 -- the verdicts on them
-pub join-more : (pairs : Blocks) (share n : ℕ) (vs more : List Verdict) → vs ≡ map verdict_of (take (n * share) pairs) → more ≡ map verdict_of (share_of share n pairs)
-    → vs ++ more ≡ map verdict_of (take ((n + 1) * share) pairs)
+pub join-more : (pairs : Blocks) (share n : ℕ) (vs more : List Verdict) → vs ≡ map verdict_of_copy (take (n * share) pairs) → more ≡ map verdict_of_copy (share_of share n pairs)
+    → vs ++ more ≡ map verdict_of_copy (take ((n + 1) * share) pairs)
 join-more pairs share n vs more is this =
     let next : n * share + share ≡ (n + 1) * share = omega arith in
-    ap (λ (l : List Verdict). l ++ more) is ∙ ap (λ (l : List Verdict). map verdict_of (take (n * share) pairs) ++ l) this
-    ∙ sym (map-append verdict_of (take (n * share) pairs) (share_of share n pairs))
-    ∙ ap (map verdict_of) (share-more pairs share n ∙ ap (λ (k : ℕ). take k pairs) next)
+    ap (λ (l : List Verdict). l ++ more) is ∙ ap (λ (l : List Verdict). map verdict_of_copy (take (n * share) pairs) ++ l) this
+    ∙ sym (map-append verdict_of_copy (take (n * share) pairs) (share_of share n pairs))
+    ∙ ap (map verdict_of_copy) (share-more pairs share n ∙ ap (λ (k : ℕ). take k pairs) next)
 
 -- ---- words
 
@@ -102,12 +102,12 @@ all_true pairs place p at =
     subst (λ (w : ℕ). IsTrueWord w p) (sym there) (true_word p)
 
 -- the words up to a pair, and the word of this pair
-pub words-more : (pairs : Blocks) (vs : List Verdict) (place : ℕ) (e : List ℕ × List ℕ) (words : List ℕ) (word : ℕ) (d : Verdict) → vs ≡ map verdict_of pairs → slice_get pairs place ≡ Some e
+pub words-more : (pairs : Blocks) (vs : List Verdict) (place : ℕ) (e : List ℕ × List ℕ) (words : List ℕ) (word : ℕ) (d : Verdict) → vs ≡ map verdict_of_copy pairs → slice_get pairs place ≡ Some e
     → words ≡ map judged_word (take place pairs) → word ≡ word_of e.0 (get_or vs place d) → words ++ word ∷ [] ≡ map judged_word (take (place + 1) pairs)
 words-more pairs vs place e words word d all at is this =
     let read : get_or pairs place e ≡ e = get_or_from_slice_get pairs place e e at in
-    let verdict : get_or vs place d ≡ verdict_of e =
-    ap (λ (l : List Verdict). get_or l place d) all ∙ get_or_from_slice_get (map verdict_of pairs) place (verdict_of e) d (slice_get-map verdict_of pairs place ∙ ap (option_map verdict_of) at) in
+    let verdict : get_or vs place d ≡ verdict_of_copy e =
+    ap (λ (l : List Verdict). get_or l place d) all ∙ get_or_from_slice_get (map verdict_of_copy pairs) place (verdict_of_copy e) d (slice_get-map verdict_of_copy pairs place ∙ ap (option_map verdict_of_copy) at) in
     ap (λ (l : List ℕ). l ++ word ∷ []) is
     ∙ ap (λ (n : ℕ). map judged_word (take place pairs) ++ n ∷ []) (this ∙ ap (word_of e.0) verdict)
     ∙ ap (λ (x : List ℕ × List ℕ). map judged_word (take place pairs) ++ judged_word x ∷ []) (sym read)

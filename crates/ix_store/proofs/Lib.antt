@@ -13,3 +13,4 @@ pub mod Bits
 pub mod Judging
 pub mod SoundFirst
 pub mod Later
+pub mod Verdicts

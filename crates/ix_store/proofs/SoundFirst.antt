@@ -9,7 +9,7 @@ use mathlib.Core.Bool.{beq}
 use Rattle.ix_verdict.specs.declared.verdict.Verdict.{Verdict}
 use Rattle.ix_verdict.specs.Verdict.{passes}
 use Rattle.ix_store.specs.Store.{Blocks, has_cid, with_block, with_blocks}
-use Rattle.ix_store.specs.Sound.{verdict_of, is_sound_copy, is_unsound_copy, sound_first, first_copies, sound_copies, unsound_count, AreSoundCopies, fails, picked, is_picked, passing_first}
+use Rattle.ix_store.specs.Sound.{verdict_of_copy, is_sound_copy, is_unsound_copy, sound_first, first_copies, sound_copies, unsound_count, AreSoundCopies, fails, picked, is_picked, passing_first}
 
 -- ---- picking
 
@@ -75,28 +75,28 @@ All-passing_first P vs xs all =
     All-append P (picked (is_picked true) vs xs) (picked (is_picked false) vs xs) (All-picked P (is_picked true) vs xs all) (All-picked P (is_picked false) vs xs all)
 
 -- what is picked by the verdicts on pairs
-picked-filter : (test : Verdict → Bool) (pairs : Blocks) → picked test (map verdict_of pairs) pairs ≡ filter (λ p. test (verdict_of p)) pairs
+picked-filter : (test : Verdict → Bool) (pairs : Blocks) → picked test (map verdict_of_copy pairs) pairs ≡ filter (λ p. test (verdict_of_copy p)) pairs
 picked-filter test [] = refl
 picked-filter test (p ∷ pairs) =
-    ap (λ (l : Blocks). cond (test (verdict_of p)) (p ∷ l) l) (picked-filter test pairs)
+    ap (λ (l : Blocks). cond (test (verdict_of_copy p)) (p ∷ l) l) (picked-filter test pairs)
 
 -- sorted by the verdicts on them, the sound ones come first
-pub sorted-sound : (pairs : Blocks) → passing_first (map verdict_of pairs) pairs ≡ sound_first pairs
+pub sorted-sound : (pairs : Blocks) → passing_first (map verdict_of_copy pairs) pairs ≡ sound_first pairs
 sorted-sound pairs =
-    ap (λ (l : Blocks). l ++ picked (is_picked false) (map verdict_of pairs) pairs) (picked-filter (is_picked true) pairs)
+    ap (λ (l : Blocks). l ++ picked (is_picked false) (map verdict_of_copy pairs) pairs) (picked-filter (is_picked true) pairs)
     ∙ ap (λ (l : Blocks). filter is_sound_copy pairs ++ l) (picked-filter (is_picked false) pairs)
 
 -- and so do the verdicts on them
-pub sorted-verdicts : (pairs : Blocks) → passing_first (map verdict_of pairs) (map verdict_of pairs) ≡ map verdict_of (sound_first pairs)
-sorted-verdicts pairs = sym (map-passing_first verdict_of (map verdict_of pairs) pairs) ∙ ap (map verdict_of) (sorted-sound pairs)
+pub sorted-verdicts : (pairs : Blocks) → passing_first (map verdict_of_copy pairs) (map verdict_of_copy pairs) ≡ map verdict_of_copy (sound_first pairs)
+sorted-verdicts pairs = sym (map-passing_first verdict_of_copy (map verdict_of_copy pairs) pairs) ∙ ap (map verdict_of_copy) (sorted-sound pairs)
 
 -- ---- counting
 
 -- the pairs that aren't sound, counted by their verdicts
-pub count-verdicts : (pairs : Blocks) → length (filter fails (map verdict_of pairs)) ≡ unsound_count pairs
+pub count-verdicts : (pairs : Blocks) → length (filter fails (map verdict_of_copy pairs)) ≡ unsound_count pairs
 count-verdicts [] = refl
 count-verdicts (p ∷ pairs) =
-    elim (passes (verdict_of p)) as (λ b. length (cond (not b) (verdict_of p ∷ filter fails (map verdict_of pairs)) (filter fails (map verdict_of pairs))) ≡ length (cond (not b) (p ∷ filter is_unsound_copy pairs) (filter is_unsound_copy pairs))) [
+    elim (passes (verdict_of_copy p)) as (λ b. length (cond (not b) (verdict_of_copy p ∷ filter fails (map verdict_of_copy pairs)) (filter fails (map verdict_of_copy pairs))) ≡ length (cond (not b) (p ∷ filter is_unsound_copy pairs) (filter is_unsound_copy pairs))) [
       | true ↦ count-verdicts pairs
       | false ↦ ap suc (count-verdicts pairs)
     ]

@@ -12,3 +12,4 @@ pub mod Memo
 pub mod PlaceSet
 pub mod Cursor
 pub mod Sound
+pub mod Verdict

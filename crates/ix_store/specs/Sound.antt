@@ -15,13 +15,13 @@ use Rattle.ix_store.specs.Index.{IsIndexed}
 use Rattle.ix_store.specs.declared.index.Index.{Index}
 
 -- the verdict on a CID and the block that is stored under it
-abbrev pub verdict_of : List ℕ × List ℕ → Verdict
-verdict_of p = verdict_with p.0 (Some p.1)
+abbrev pub verdict_of_copy : List ℕ × List ℕ → Verdict
+verdict_of_copy p = verdict_with p.0 (Some p.1)
 
 -- A traversal continues below the pair. The verdict on an identity CID, or on one with an unknown codec or hash function, is
 -- the same for each block under it.
 abbrev pub is_sound_copy : List ℕ × List ℕ → Bool
-is_sound_copy p = passes (verdict_of p)
+is_sound_copy p = passes (verdict_of_copy p)
 
 abbrev pub is_unsound_copy : List ℕ × List ℕ → Bool
 is_unsound_copy p = not (is_sound_copy p)
@@ -102,7 +102,7 @@ share_of share number pairs = drop (number * share) (take (number * share + shar
 
 -- what a thread returns for a share: the verdict on each pair
 abbrev pub ShareJudged : Blocks → ℕ → ℕ → Result (Vec Verdict) AllocError → Type 0
-ShareJudged pairs share number result = IfOk result (λ verdicts. verdicts.items ≡ map verdict_of (share_of share number pairs))
+ShareJudged pairs share number result = IfOk result (λ verdicts. verdicts.items ≡ map verdict_of_copy (share_of share number pairs))
 
 -- what the threads return for the shares
 abbrev pub AllJudged : Blocks → ℕ → List (Result (Vec Verdict) AllocError) → Type 0
@@ -131,4 +131,4 @@ word_of c verdict = if is_hashed (hash_function_of (parts_of c)) then word_by (c
 
 -- the word of a pair by the verdict on it
 abbrev pub judged_word : List ℕ × List ℕ → ℕ
-judged_word p = word_of p.0 (verdict_of p)
+judged_word p = word_of p.0 (verdict_of_copy p)

@@ -2,7 +2,7 @@
 
 ghost use Rattle.std.specs.Prelude.{◌≡◌, ◌≤◌, ◌*◌, ◌==◌, ◌&&◌, length, map, vec_len, is_none, IfOk};
 ghost use Rattle.ix_cbor.specs.Reading.{data_at};
-ghost use Rattle.ix_store.specs.Sound.{verdict_of, AllJudged, ShareJudged};
+ghost use Rattle.ix_store.specs.Sound.{verdict_of_copy, AllJudged, ShareJudged};
 
 use crate::table::{Entries, has_fault};
 use ix_cid::code::DAG_CBOR;
@@ -21,7 +21,7 @@ pub(crate) fn verdicts_on<R: Threads + Sync>(
     entries: &Entries<'_>,
     threads: usize,
 ) -> Judged
-    ensures { IfOk result (λ verdicts. verdicts.items ≡ map verdict_of entries.now) }
+    ensures { IfOk result (λ verdicts. verdicts.items ≡ map verdict_of_copy entries.now) }
 {
     let threads = threads.max(1);
     let share = entries.len().div_ceil(threads);
@@ -66,7 +66,7 @@ fn judge_share(alloc: Global, entries: &Entries<'_>, share: usize, number: usize
 fn join_shares(alloc: Global, entries: &Entries<'_>, share: usize, shares: &[Judged]) -> Judged
     requires judged { AllJudged entries.now share shares.now }
     requires whole { length entries.now ≤ length shares.now * share }
-    ensures { IfOk result (λ verdicts. verdicts.items ≡ map verdict_of entries.now) }
+    ensures { IfOk result (λ verdicts. verdicts.items ≡ map verdict_of_copy entries.now) }
 {
     let mut verdicts = Vec::with_capacity(alloc, entries.len())?;
     for judged in shares.iter() {
@@ -81,7 +81,7 @@ fn join_shares(alloc: Global, entries: &Entries<'_>, share: usize, shares: &[Jud
 /// Returns the verdict on the bytes of a CID and the block under it, which is decoded only if its hash
 /// matches.
 pub fn verdict_on(cid: &[u8], block: &[u8]) -> Verdict
-    ensures { result ≡ verdict_of (cid.now, block.now) }
+    ensures { result ≡ verdict_of_copy (cid.now, block.now) }
 {
     let parts = parts_at(cid);
     match bytes_needed(&parts) {

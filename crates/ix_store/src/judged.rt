@@ -1,7 +1,7 @@
 //! A table of blocks with the verdict on each.
 
 ghost use Rattle.std.specs.Prelude.{◌≡◌, ◌<◌, length, take, map, swap, IfOk};
-ghost use Rattle.ix_store.specs.Sound.{verdict_of, sound_first, unsound_count, fails};
+ghost use Rattle.ix_store.specs.Sound.{verdict_of_copy, sound_first, unsound_count, fails};
 ghost use Rattle.std.specs.List.{filter};
 
 use crate::judge::verdicts_on;
@@ -29,13 +29,13 @@ impl Drop for JudgedTable {
 impl Model for JudgedTable {
     ghost use Rattle.std.specs.Prelude.{◌≡◌, map};
     ghost use Rattle.ix_store.specs.Table.{TableMeaning};
-    ghost use Rattle.ix_store.specs.Sound.{verdict_of};
+    ghost use Rattle.ix_store.specs.Sound.{verdict_of_copy};
 
     ghost Value = { TableMeaning };
 
     ghost view = { λ t. t.blocks };
 
-    ghost invariant = { λ t. t.verdicts.items ≡ map verdict_of t.blocks.pairs };
+    ghost invariant = { λ t. t.verdicts.items ≡ map verdict_of_copy t.blocks.pairs };
 }
 
 impl JudgedTable {
@@ -116,7 +116,7 @@ impl JudgedTable {
     /// Returns the table and the verdicts.
     pub(crate) fn into_parts(self) -> (BlockTable, Vec<Verdict>)
         ensures blocks { result.0 ≡ self }
-        ensures verdicts { result.1.items ≡ map verdict_of self.pairs }
+        ensures verdicts { result.1.items ≡ map verdict_of_copy self.pairs }
     {
         let JudgedTable { blocks, verdicts } = self;
         (blocks, verdicts)

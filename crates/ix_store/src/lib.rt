@@ -34,6 +34,7 @@ mod memo_rule;
 mod places;
 mod sound;
 mod store;
+mod stored;
 mod table;
 mod verify;
 
@@ -44,4 +45,5 @@ pub use judge::verdict_on;
 pub use places::PlaceSet;
 pub use sound::{SoundBuilder, SoundStore};
 pub use store::Store;
+pub use stored::verdict_at;
 pub use table::has_fault;

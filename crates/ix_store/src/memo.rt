@@ -2,7 +2,7 @@
 
 ghost use Rattle.std.specs.Prelude.{◌≡◌, ◌<◌, IfOk, length, slice_get, Some, IfSome, IfNone, ◌==◌, cond, map};
 ghost use Rattle.ix_store.specs.Memo.{hash_matches, is_malformed, IsTrueAt};
-ghost use Rattle.ix_store.specs.Sound.{verdict_of, word_by, word_of, judged_word};
+ghost use Rattle.ix_store.specs.Sound.{verdict_of_copy, word_by, word_of, judged_word};
 
 use crate::digest::hash_matches;
 use crate::memo_rule::{Look, MemoSeat, Note, Row};
@@ -47,7 +47,7 @@ impl Memo {
         blocks: &BlockTable,
         verdicts: &[Verdict],
     ) -> Result<Memo, AllocError>
-        requires { verdicts.now ≡ map verdict_of blocks.now.pairs }
+        requires { verdicts.now ≡ map verdict_of_copy blocks.now.pairs }
         ensures { IfOk result (λ m. m ≡ blocks.now.pairs) }
     {
         let words = words_of(alloc, &blocks.entries(), verdicts)?;
@@ -92,7 +92,7 @@ fn words_of(
     entries: &Entries<'_>,
     verdicts: &[Verdict],
 ) -> Result<Vec<u64>, AllocError>
-    requires { verdicts.now ≡ map verdict_of entries.now }
+    requires { verdicts.now ≡ map verdict_of_copy entries.now }
     ensures { IfOk result (λ words. words.items ≡ map judged_word entries.now) }
 {
     let mut words = Vec::with_capacity(alloc, entries.len())?;

@@ -2,7 +2,8 @@ use Rattle.std.proofs.Common.{false, sym, ap, ◌∙◌}
 use Rattle.ix_store.specs.Memo.{hash_matches}
 use Rattle.ix_store.proofs.Stores.{asked-there}
 use Rattle.ix_verdict.specs.Needed.{needed_of}
-use Rattle.ix_check.proofs.Verdicts.{verdict-absent, verdict-there}
+use Rattle.ix_store.proofs.Verdicts.{verdict-absent}
+use Rattle.ix_check.proofs.Verdicts.{verdict-there}
 use Rattle.ix_check.proofs.check.verdict_of.Goals as goal
 
 pub returns-in-None : goal.returns-in-None

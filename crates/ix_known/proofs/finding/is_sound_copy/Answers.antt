@@ -10,3 +10,6 @@ bytes-requires c = place_within _ _ _ (sym c.requires)
 pub returns-then-eq : goal.returns-then-eq
 returns-then-eq c =
     c.is_sound.ensures ∙ ap is_sound c.verdict_at.ensures ∙ known-copy c.args.store.now c.args.place c.args.cid.now c.bytes.result.now c.args.block.now c.requires c.bytes.ensures (sym c.eq.ensures ∙ c.if-eq.true)
+
+pub verdict_at-requires : goal.verdict_at-requires
+verdict_at-requires c = sym c.requires

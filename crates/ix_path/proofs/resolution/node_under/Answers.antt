@@ -6,7 +6,7 @@ use Rattle.ix_cbor.specs.Data.{Data}
 use Rattle.ix_verdict.specs.Verdict.{passes}
 use Rattle.ix_path.specs.declared.obstacle.Obstacle.TheVariants.{Block}
 use Rattle.ix_path.specs.Node.{data_in, IsNode}
-use Rattle.ix_path.specs.Resolution.{verdict_of}
+use Rattle.ix_store.specs.Verdict.{verdict_of}
 use Rattle.ix_path.proofs.Causes.{passing-goes}
 use Rattle.ix_path.proofs.Verdicts.{node_readable, node_sound}
 use Rattle.ix_path.proofs.resolution.node_under.Goals as goal

@@ -1,7 +1,7 @@
 use Rattle.std.proofs.Common.{◌≡◌, ◌⊎◌, ◌∙◌, ◌+◌, ◌*◌, ◌<◌, ◌≤◌, ℕ, List, length, map, slice_get, Some, ap, inl, inr, ⊎_elim, arith}
 use Rattle.std.proofs.lemmas.Bool.{cases_lt}
 use Rattle.std.proofs.lemmas.Option.{slice_get_within}
-use Rattle.ix_store.specs.Sound.{verdict_of}
+use Rattle.ix_store.specs.Sound.{verdict_of_copy}
 use Rattle.ix_store.proofs.Judging.{judged-more, same-part}
 use Rattle.ix_store.proofs.judge.judge_share.Goals as goal
 
@@ -24,4 +24,4 @@ returns c =
     ⊎_elim (λ (h : start < long). inl (omega (arith, h, c.len.ensures, c.len-2.ensures, c.saturating_mul.ensures, c.saturating_add.ensures, c.min-from.ensures, c.min-to.ensures, c.loop-place-test.false, c.loop-place.auto.place-end))) (λ (h : long ≤ start). inr (omega (arith, h, c.len.ensures, c.len-2.ensures, c.saturating_mul.ensures, c.saturating_add.ensures, c.min-from.ensures, c.min-to.ensures, c.loop-place-test.false, c.loop-place.auto.place-end), h)) (cases_lt start long) in
     let last : (place ≡ start + c.args.share) ⊎ ((long ≤ place) × (long ≤ start + c.args.share)) =
     ⊎_elim (λ (h : start + c.args.share < long). inl (omega (arith, h, c.len.ensures, c.len-2.ensures, c.saturating_mul.ensures, c.saturating_add.ensures, c.min-from.ensures, c.min-to.ensures, c.loop-place-test.false, c.loop-place.auto.place-end))) (λ (h : long ≤ start + c.args.share). inr (omega (arith, h, c.len.ensures, c.len-2.ensures, c.saturating_mul.ensures, c.saturating_add.ensures, c.min-from.ensures, c.min-to.ensures, c.loop-place-test.false, c.loop-place.auto.place-end), h)) (cases_lt (start + c.args.share) long) in
-    c.loop-place.invariant ∙ ap (map verdict_of) (same-part pairs from place start (start + c.args.share) first last)
+    c.loop-place.invariant ∙ ap (map verdict_of_copy) (same-part pairs from place start (start + c.args.share) first last)

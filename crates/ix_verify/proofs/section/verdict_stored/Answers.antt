@@ -3,7 +3,7 @@ use Rattle.std.proofs.lemmas.Bool.{ne_eqb}
 use Rattle.ix_cid.specs.Cid.{Parts, codec_of, hash_function_of}
 use Rattle.ix_store.specs.Memo.{hash_matches, is_malformed}
 use Rattle.ix_verify.specs.Judged.{section_pair}
-use Rattle.ix_check.proofs.Verdicts.{no-data-yes, no-data-no}
+use Rattle.ix_store.proofs.Verdicts.{no-data-yes, no-data-no}
 use Rattle.ix_verify.proofs.Stored.{none-by, asked-here, section-stored, section-unknown}
 use Rattle.ix_verify.proofs.section.verdict_stored.Goals as goal
 use Rattle.ix_verify.proofs.section.verdict_stored.Goals.{then-parts-eq-DAG_CBOR, else-parts-eq-DAG_CBOR}

@@ -1,6 +1,6 @@
 use Rattle.std.proofs.Common.{◌≡◌, ◌∙◌, List, ap, sym, map}
 use Rattle.ix_verdict.specs.declared.verdict.Verdict.{Verdict}
-use Rattle.ix_store.specs.Sound.{verdict_of, sound_first, passing_first}
+use Rattle.ix_store.specs.Sound.{verdict_of_copy, sound_first, passing_first}
 use Rattle.ix_store.specs.Table.{TableMeaning}
 use Rattle.ix_store.proofs.SoundFirst.{sorted-sound, sorted-verdicts}
 use Rattle.ix_store.proofs.judged.JudgedTable.sound_first.Goals as goal
@@ -12,9 +12,9 @@ invariant_of-result c =
     c.in_ok-sort_passing_first.ensures ∙ ap (λ (l : List Verdict). passing_first l pairs) (c.as_slice.ensures.value ∙ c.self.invariant) ∙ sorted-sound pairs in
     c.in_ok-verdicts.ensures
     ∙ ap (λ (l : List Verdict). passing_first l c.as_slice-3.result.now) (c.as_slice-2.ensures.value ∙ c.self.invariant)
-    ∙ ap (λ (l : List Verdict). passing_first (map verdict_of pairs) l) (c.as_slice-3.ensures.value ∙ c.self.invariant)
+    ∙ ap (λ (l : List Verdict). passing_first (map verdict_of_copy pairs) l) (c.as_slice-3.ensures.value ∙ c.self.invariant)
     ∙ sorted-verdicts pairs
-    ∙ ap (map verdict_of) (sym sorted)
+    ∙ ap (map verdict_of_copy) (sym sorted)
 
 pub returns : goal.returns
 returns c =

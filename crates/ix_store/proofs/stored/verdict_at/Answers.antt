@@ -7,19 +7,19 @@ use Rattle.ix_cbor.specs.Reading.{data_at}
 use Rattle.ix_store.specs.Memo.{hash_matches, is_malformed}
 use Rattle.ix_store.proofs.Stores.{asked-there}
 use Rattle.ix_verdict.specs.Needed.{needed_of}
-use Rattle.ix_check.proofs.Verdicts.{verdict-absent, verdict-judged, no-data-yes, no-data-no}
-use Rattle.ix_check.proofs.check.verdict_in.Goals.{then-parts-eq-DAG_CBOR-2, else-parts-eq-DAG_CBOR-2}
-use Rattle.ix_check.proofs.check.verdict_in.Goals as goal
+use Rattle.ix_store.proofs.Verdicts.{verdict-absent, verdict-judged, no-data-yes, no-data-no}
+use Rattle.ix_store.proofs.stored.verdict_at.Goals.{then-parts-eq-DAG_CBOR-2, else-parts-eq-DAG_CBOR-2}
+use Rattle.ix_store.proofs.stored.verdict_at.Goals as goal
 
 pub returns-in-None : goal.returns-in-None
 returns-in-None c =
-    verdict-absent c.args.store.now c.args.cid.now c.in-Block.field-0 (c.in-Block.ensures ∙ ap needed_of c.parts-parts.ensures) (sym c.in-None.is ∙ c.find.ensures)
+    verdict-absent c.args.store.now c.args.cid.now c.in-Block.field-0 (c.in-Block.ensures ∙ ap needed_of c.parts-parts.ensures) (sym c.in-None.is ∙ c.requires)
 
 pub returns-after-parts-eq-DAG_CBOR-2 : goal.returns-after-parts-eq-DAG_CBOR-2
 returns-after-parts-eq-DAG_CBOR-2 c =
     let store = c.args.store.now in
     let cid = c.args.cid.now in
-    let place = sym c.in-Some.is ∙ c.find.ensures in
+    let place = sym c.in-Some.is ∙ c.requires in
     let there = asked-there hash_matches store c.in-Some.place cid c.hash_matches.result false place c.hash_matches.ensures in
     let codec : c.parts-parts.result.codec ≡ codec_of cid = ap (λ (p : Parts). p.codec) c.parts-parts.ensures in
     c.of_block.ensures
