@@ -1,104 +1,122 @@
--- The blocks of selectors along segments.
-use Rattle.std.proofs.Common.{◌≡◌, ◌<◌, ◌^◌, ℕ, Bool, true, false, true≢false, List, [], ◌∷◌, refl, sym, ◌∙◌, ap, arith, ltb-true}
-use Rattle.std.specs.Prelude.{Some, None, option_and_then, Result, Ok, Err, IfOk, nat_lt, if◌then◌else◌}
-use Rattle.std.specs.Str.Parse.{digits_value}
-use Rattle.ix_path.specs.Children.{is_index}
+-- The trees and blocks of selectors along segments.
+use Rattle.std.proofs.Common.{◌≡◌, ◌≤◌, ℕ, List, [], ◌∷◌, ◌++◌, refl, sym, ◌∙◌, ap, subst, pos, length, arith}
+use Rattle.std.specs.Global.{Vec}
+use Rattle.std.specs.Prelude.{Option, Some, None, Result, Ok, Err, IfOk, IfErr}
 use Rattle.ix_cbor.specs.Data.{Data}
-use Rattle.ix_selector.specs.declared.fault.SelFault.{SelFault}
-use Rattle.ix_selector.specs.Pattern.{Pattern, matcher, union, no_members, member, IsSelector}
-use Rattle.ix_selector.specs.Enters.{Step, key, nth, Enters, at_fields, at_index, in_union, head}
-use Rattle.ix_selector.specs.IsEntered.{is_entered}
+use Rattle.ix_cbor.specs.Spelling.{IsSpellable, IsCanonical, spelling_of}
+use Rattle.ix_selector.specs.Pattern.{Pattern, fields, index, no_fields, field, union, no_members, member, outside, IsGuarded, nesting_of, greatest_nesting, IsSelector}
+use Rattle.ix_selector.specs.Enters.{Step, key, nth, Enters, at_fields, in_union, head}
 use Rattle.ix_selector.specs.Reading.{selector_of}
-use Rattle.ix_selector.specs.Spelled.{SpellsSelector, alone, as_union, as_no_members, as_member}
-use Rattle.ix_selector.proofs.Decides.{is_entered-decides}
+use Rattle.ix_selector.specs.Spelled.{SpellsPattern, alone, as_fields, as_no_fields, as_field, as_index, as_union, as_no_members, as_member}
+use Rattle.ix_selector.proofs.Guarded.{reads_selector}
+use Rattle.ix_selector.proofs.Spellings.{at_spelled}
 use Rattle.ix_selector.proofs.SpelledAgain.{selector_of-iff, spells-one}
+use Rattle.ix_path.specs.declared.selector_fault.PathSelectorFault.{PathSelectorFault}
+use Rattle.ix_path.specs.declared.selector_fault.PathSelectorFault.TheVariants as faults
 use Rattle.ix_path.specs.declared.end.PathEnd.{PathEnd}
-use Rattle.ix_path.specs.declared.end.PathEnd.TheVariants.{Selector}
-use Rattle.ix_path.specs.Along.{pattern_along}
-use Rattle.ix_path.specs.End.{read_at_end, selector_at_end}
-use Rattle.ix_path.specs.Made.{IsSelectorAlong}
-use Rattle.ix_path.specs.Segments.{IsBlockOf, number_of, union_data}
+use Rattle.ix_path.specs.Along.{pattern_along, data_after}
+use Rattle.ix_path.specs.End.{selector_at_end}
+use Rattle.ix_path.specs.Made.{IsRead, SpellsTooDeep}
+use Rattle.ix_path.specs.Resolution.{segments_in}
+use Rattle.ix_path.specs.Segments.{number_of, by_key_or_index, data_by_key_or_index, pattern_by_segments, IsBlockOf, IsTreeOf, IsTooDeep, HasNoSelectorBySegments}
+use Rattle.ix_path.proofs.Along.{spelled_along, guarded_along}
 use Rattle.ix_path.proofs.Entered.{enters_its_end}
-use Rattle.ix_path.proofs.OwnPlace.{entering_stays}
 
--- what was read, or the matcher
-abbrev read-or-matcher : Result Pattern SelFault → Pattern
-read-or-matcher (Ok s) = s
-read-or-matcher (Err fault) = matcher
+-- a selector that is read along a step goes on by the one that the next data spell
+step-read : (t : Step) (d : Data) (s v : Pattern) → SpellsPattern d s → IsSelector s → SpellsPattern (data_after t d) v → IsSelector v → v ≡ pattern_along (t ∷ []) s
+step-read (key k) d s v spelled own (as_fields (as_field {s = x} h as_no_fields)) rules =
+    ap (λ q. fields (field k q no_fields)) (spells-one d x s (record { edges = rules.edges.0; nesting = omega (arith, rules.nesting) }) own (alone h) (alone spelled))
+step-read (nth n) d s v spelled own (as_index {s = x} h) rules =
+    ap (λ q. index (pos n) q) (spells-one d x s (record { edges = rules.edges; nesting = omega (arith, rules.nesting) }) own (alone h) (alone spelled))
 
-abbrev is-read : Result Pattern SelFault → Bool
-is-read (Ok s) = true
-is-read (Err fault) = false
+-- and so along a segment
+segment-read : (g : List ℕ) (number : Option ℕ) (d : Data) (s v : Pattern) → SpellsPattern d s → IsSelector s → SpellsPattern (data_by_key_or_index g number d) v → IsSelector v → v ≡ by_key_or_index g number s
+segment-read g None d s v spelled own h rules = step-read (key g) d s v spelled own h rules
+segment-read g (Some n) d s v spelled own (as_union (as_member {s = x} a (as_member {s = y} b as_no_members))) rules =
+    let one : x ≡ pattern_along (key g ∷ []) s = step-read (key g) d s x spelled own a (record { edges = rules.edges.0; nesting = omega (arith, rules.nesting) }) in
+    let two : y ≡ pattern_along (nth n ∷ []) s = step-read (nth n) d s y spelled own b (record { edges = rules.edges.1.0; nesting = omega (arith, rules.nesting) }) in
+    ap (λ (q : Pattern). union (member q (member y no_members))) one ∙ ap (λ (q : Pattern). union (member (pattern_along (key g ∷ []) s) (member q no_members))) two
 
--- a selector that is read and enters its own place is the one at the end
-at-end : (d : Data) (s : Pattern) → selector_of d ≡ Ok s → Enters s [] [] → selector_at_end (Selector d) ≡ Ok s
-at-end d s read entered =
-    let own : is_entered s [] ≡ true = (is_entered-decides s [] ((selector_of-iff d s).0 read).1).1 entered in
-    ap read_at_end read ∙ ap (λ (t : Pattern). Ok t) (entering_stays s own)
+-- what is read along a segment is no envelope
+segment-alone : (g : List ℕ) (number : Option ℕ) (d : Data) (v : Pattern) → selector_of (data_by_key_or_index g number d) ≡ Ok v → SpellsPattern (data_by_key_or_index g number d) v
+segment-alone g None d v read = at_spelled greatest_nesting outside (data_by_key_or_index g None d) v read
+segment-alone g (Some n) d v read = at_spelled greatest_nesting outside (data_by_key_or_index g (Some n) d) v read
 
--- along no step
-pub along-none : (end : PathEnd) (block : List ℕ) (h : IsSelectorAlong [] end block) → IsBlockOf h.selector block
-along-none end block h = record {
-  selector_data = h.selector_data;
-  spelled = h.spelled;
-  read = h.read;
-  entered = enters_its_end end h.selector [] [] h.at_end (record { rest = []; path = refl });
-}
+-- the data along a segment spell the selector along it
+segment-spelled : (g : List ℕ) (number : Option ℕ) (d : Data) (s : Pattern) → SpellsPattern d s → SpellsPattern (data_by_key_or_index g number d) (by_key_or_index g number s)
+segment-spelled g None d s h = spelled_along (key g ∷ []) d s h
+segment-spelled g (Some n) d s h = as_union (as_member (spelled_along (key g ∷ []) d s h) (as_member (spelled_along (nth n ∷ []) d s h) as_no_members))
 
--- a selector after a step enters its own place
-entered-along : (t : Step) (s : Pattern) → Enters (pattern_along (t ∷ []) s) [] []
-entered-along (key k) s = at_fields
-entered-along (nth n) s = at_index
+-- edges stay where they are allowed
+segment-guarded : (g : List ℕ) (number : Option ℕ) (s : Pattern) → IsGuarded outside s → IsGuarded outside (by_key_or_index g number s)
+segment-guarded g None s h = guarded_along (key g ∷ []) s h
+segment-guarded g (Some n) s h = (guarded_along (key g ∷ []) s h, (guarded_along (nth n ∷ []) s h, tt))
 
--- along a step
-pub along-step : (t : Step) (s : Pattern) (d : Data) (block : List ℕ) → selector_of d ≡ Ok s → Enters s [] [] → IsSelectorAlong (t ∷ []) (Selector d) block → IsBlockOf (pattern_along (t ∷ []) s) block
-along-step t s d block read entered h =
-    let same : h.selector ≡ s = sym (ap read-or-matcher (sym (at-end d s read entered) ∙ h.at_end)) in
+-- the tree along a segment
+tree-along : (g : List ℕ) (number : Option ℕ) (d tree : Data) (s : Pattern) → IsTreeOf s d → tree ≡ data_by_key_or_index g number d → IsCanonical tree → IsRead tree → IsTreeOf (by_key_or_index g number s) tree
+tree-along g number d tree s h is canonical read =
+    let whole : selector_of (data_by_key_or_index g number d) ≡ Ok read.0 = ap selector_of (sym is) ∙ read.1 in
+    let rules : IsSelector read.0 = reads_selector (data_by_key_or_index g number d) read.0 whole in
+    let same : read.0 ≡ by_key_or_index g number s = segment-read g number d s read.0 h.spelled h.rules (segment-alone g number d read.0 whole) rules in
     record {
-      selector_data = h.selector_data;
-      spelled = h.spelled;
-      read = h.read ∙ ap (λ (q : Pattern). Ok (pattern_along (t ∷ []) q)) same;
-      entered = entered-along t s;
+      canonical = canonical;
+      spelled = subst (λ x. SpellsPattern x (by_key_or_index g number s)) (sym is) (segment-spelled g number d s h.spelled);
+      rules = subst IsSelector same rules;
     }
 
--- data of a union of two that are read spell the union of these
-of-members : (d e : Data) (v : Pattern) → SpellsSelector (union_data d e) v → IsSelector v → (s t : Pattern) → selector_of d ≡ Ok s → selector_of e ≡ Ok t → v ≡ union (member s (member t no_members))
-of-members d e v (alone (as_union (as_member {s = x} a (as_member {s = y} b as_no_members)))) rules s t ds et =
-    let first = (selector_of-iff d s).0 ds in
-    let second = (selector_of-iff e t).0 et in
-    let one : x ≡ s = spells-one d x s (record { edges = rules.edges.0; nesting = omega (arith, rules.nesting) }) first.1 (alone a) first.0 in
-    let two : y ≡ t = spells-one e y t (record { edges = rules.edges.1.0; nesting = omega (arith, rules.nesting) }) second.1 (alone b) second.0 in
-    ap (λ (q : Pattern). union (member q (member y no_members))) one ∙ ap (λ (q : Pattern). union (member s (member q no_members))) two
+pub segment-tree : (g : List ℕ) (number : Option ℕ) (d node : Data) (s : Pattern) (r : Result Data PathSelectorFault) → IsTreeOf s d → node ≡ data_by_key_or_index g number d → IfOk r (λ tree. tree ≡ node) → IfOk r (λ tree. IsCanonical tree) → IfOk r (λ tree. IsRead tree) → IfOk r (λ tree. IsTreeOf (by_key_or_index g number s) tree)
+segment-tree g number d node s (Ok tree) h is same canonical read = tree-along g number d tree s h (same ∙ is) canonical read
+segment-tree g number d node s (Err fault) h is same canonical read = tt
 
--- the union of two
-pub along-union : (d e : Data) (s t : Pattern) (block : List ℕ) → selector_of d ≡ Ok s → selector_of e ≡ Ok t → Enters s [] [] → IsSelectorAlong [] (Selector (union_data d e)) block
-    → IsBlockOf (union (member s (member t no_members))) block
-along-union d e s t block ds et entered h = by (selector_of (union_data d e)) refl where
-  both : Pattern
-  both = union (member s (member t no_members))
+-- or it nests too deep
+pub segment-deep : (g : List ℕ) (number : Option ℕ) (d node : Data) (s : Pattern) (r : Result Data PathSelectorFault) → IsTreeOf s d → node ≡ data_by_key_or_index g number d → IsSpellable node → IfErr r (λ fault. SpellsTooDeep node fault) → IfErr r (λ fault. IsTooDeep (by_key_or_index g number s) fault)
+segment-deep g number d node s (Ok tree) h is spellable deep = tt
+segment-deep g number d node s (Err (faults.End fault)) h is spellable deep = absurd deep
+segment-deep g number d node s (Err faults.TooDeep) h is spellable deep =
+    deep (by_key_or_index g number s) (subst (λ x. SpellsPattern x (by_key_or_index g number s)) (sym is) (segment-spelled g number d s h.spelled)) (segment-guarded g number s h.rules.edges) spellable
+segment-deep g number d node s (Err faults.Memory) h is spellable deep = tt
 
-  by : (r : Result Pattern SelFault) → selector_of (union_data d e) ≡ r → IsBlockOf (union (member s (member t no_members))) block
-  by (Ok v) is =
-      let spelled = (selector_of-iff (union_data d e) v).0 is in
-      let same : v ≡ both = of-members d e v spelled.0 spelled.1 s t ds et in
-      let read : selector_of (union_data d e) ≡ Ok both = is ∙ ap (λ (q : Pattern). Ok q) same in
-      let own : Enters both [] [] = in_union head entered in
-      let chosen : h.selector ≡ both = sym (ap read-or-matcher (sym (at-end (union_data d e) both read own) ∙ h.at_end)) in
-      record { selector_data = h.selector_data; spelled = h.spelled; read = h.read ∙ ap (λ (q : Pattern). Ok q) chosen; entered = own }
-  by (Err fault) is = absurd (true≢false (sym (ap is-read (sym (ap read_at_end is) ∙ h.at_end))))
+-- the selector along a segment nests no less than the next one
+segment-nests : (g : List ℕ) (number : Option ℕ) (s : Pattern) → nesting_of s ≤ nesting_of (by_key_or_index g number s)
+segment-nests g None s = omega arith
+segment-nests g (Some n) s = omega arith
 
--- what follows for each result follows for a result
-pub if-ok : {X E : Type 0} (P Q : X → Type 0) (r : Result X E) → ((x : X) → P x → Q x) → IfOk r P → IfOk r Q
-if-ok P Q (Ok x) f h = f x h
-if-ok P Q (Err e) f h = tt
+-- nor does that along more segments
+segments-nest : (gs more : List (List ℕ)) (s : Pattern) → nesting_of (pattern_by_segments more s) ≤ nesting_of (pattern_by_segments (gs ++ more) s)
+segments-nest [] more s = omega arith
+segments-nest (g ∷ gs) more s = omega (arith, segments-nest gs more s, segment-nests g (number_of g) (pattern_by_segments (gs ++ more) s))
 
--- a segment that is no number a program can count to
-pub number-none : (g : List ℕ) → ((is_index g ≡ true) × (digits_value 10 g < 2 ^ 64) → ⊥) → number_of g ≡ None
-number-none g other = by (is_index g) refl where
-  within : (b : Bool) → nat_lt (digits_value 10 g) (2 ^ 64) ≡ b → is_index g ≡ true → (if b then Some (digits_value 10 g) else None) ≡ None
-  within true less is = absurd (other (is, ltb-true (digits_value 10 g) (2 ^ 64) less))
-  within false less is = refl
+-- why there is none, where the selector along the last segments has this fault
+pub refused-by-segments : (gs more : List (List ℕ)) (end : PathEnd) (s : Pattern) (fault : PathSelectorFault) → selector_at_end end ≡ Ok s → IsTooDeep (pattern_by_segments more s) fault → HasNoSelectorBySegments (gs ++ more) end fault
+refused-by-segments gs more end s (faults.End fault) at deep = absurd deep
+refused-by-segments gs more end s faults.TooDeep at deep = record { selector = s; at_end = at; nesting = omega (arith, deep, segments-nest gs more s) }
+refused-by-segments gs more end s faults.Memory at deep = tt
 
-  by : (b : Bool) → is_index g ≡ b → option_and_then (λ n. if nat_lt n (2 ^ 64) then Some n else None) (if b then Some (digits_value 10 g) else None) ≡ None
-  by true is = within (nat_lt (digits_value 10 g) (2 ^ 64)) refl is
-  by false is = refl
+-- a selector along a segment enters its own place
+segment-entered : (g : List ℕ) (number : Option ℕ) (s : Pattern) → Enters (by_key_or_index g number s) [] []
+segment-entered g None s = at_fields
+segment-entered g (Some n) s = in_union head at_fields
+
+-- and so does the one along segments
+segments-entered : (gs : List (List ℕ)) (end : PathEnd) (s : Pattern) → selector_at_end end ≡ Ok s → Enters (pattern_by_segments gs s) [] []
+segments-entered [] end s at = enters_its_end end s [] [] at (record { rest = []; path = refl })
+segments-entered (g ∷ gs) end s at = segment-entered g (number_of g) (pattern_by_segments gs s)
+
+-- its block
+pub segments-block : (gs : List (List ℕ)) (end : PathEnd) (s : Pattern) (tree : Data) (block : List ℕ) → selector_at_end end ≡ Ok s → IsTreeOf (pattern_by_segments gs s) tree → block ≡ spelling_of tree → IsBlockOf (pattern_by_segments gs s) block
+segments-block gs end s tree block at h is = record {
+  selector_data = tree;
+  spelled = record { canonical = h.canonical; spelled = is };
+  read = (selector_of-iff tree (pattern_by_segments gs s)).1 (alone h.spelled, h.rules);
+  entered = segments-entered gs end s at;
+}
+
+-- the segments before the last one, and then the last one
+pub segments-split : (before : List (Vec ℕ)) (last : Vec ℕ) (more : List (List ℕ)) → segments_in (before ++ last ∷ []) ++ more ≡ segments_in before ++ last.items ∷ more
+segments-split [] last more = refl
+segments-split (s ∷ ss) last more = ap (λ l. s.items ∷ l) (segments-split ss last more)
+
+-- where none is left
+pub segments-gone : (left : List (Vec ℕ)) (gone gs : List (List ℕ)) → length left ≡ 0 → segments_in left ++ gone ≡ gs → gone ≡ gs
+segments-gone [] gone gs none is = is
+segments-gone (s ∷ ss) gone gs none is = absurd (omega arith)

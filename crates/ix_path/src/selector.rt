@@ -33,7 +33,7 @@ pub fn selector_along(
 }
 
 // Makes the tree of a node that spells a selector, or returns that it nests too deep.
-fn selector_tree(alloc: Global, node: Node) -> Result<Tree, PathSelectorFault>
+pub(crate) fn selector_tree(alloc: Global, node: Node) -> Result<Tree, PathSelectorFault>
     ensures tree { IfOk result (λ tree. tree ≡ data_of node) }
     ensures canonical { IfOk result (λ tree. IsCanonical tree) }
     ensures read { IfOk result (λ tree. IsRead tree) }

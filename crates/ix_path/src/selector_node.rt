@@ -39,7 +39,7 @@ pub(crate) fn two_keys(
 }
 
 // Puts the form of a step around the node of the next selector: a field or an index.
-fn step_node(alloc: Global, step: &Step<'_>, next: Node) -> Result<Node, AllocError>
+pub(crate) fn step_node(alloc: Global, step: &Step<'_>, next: Node) -> Result<Node, AllocError>
     ensures exact { IfOk result (λ node.
         data_of node ≡ data_after (step_of step.now) (data_of next)) }
     ensures spellable { IfOk result (λ node.
