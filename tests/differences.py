@@ -1,10 +1,10 @@
 #!/usr/bin/env python3
 """Runs jobs with --without over random bases and compares the differences with a model, byte for byte: the whole archive
-less the sections of which the base's first copy is the same. The graphs and the selectors are random; a base has some of the
-blocks, sound, damaged or repeated, and blocks of other graphs, or is the file of blocks itself, or larger. A difference and its
-base, put together, export the whole again. The worked examples of crates/ix_cases/data follow with each subset of their
-blocks known, small ones exhaustively; 200 jobs without one base, in parts too; and a base that changes while it is read.
-Ends with status 1 at the first run that is wrong.
+less the sections of which the base's first copy is the same, or with --prefer-sound any. The graphs and the selectors are
+random; a base has some of the blocks, sound, damaged or repeated, and blocks of other graphs, or is the file of blocks itself,
+or larger. A difference and its base, put together, export the whole again. The worked examples of crates/ix_cases/data follow
+with each subset of their blocks known, small ones exhaustively; 200 jobs without one base, in parts too; and a base that
+changes while it is read. Ends with status 1 at the first run that is wrong.
 """
 
 import argparse
@@ -22,6 +22,8 @@ sys.dont_write_bytecode = True
 import once
 from hostile import ALL, DAG_CBOR, DIGESTS, IDENTITY, NO_ROOTS, PROGRAM, RAW, SECONDS_A_RUN, SHA2_256
 from hostile import Wrong, cid, cid_of, list_of, link, read_cid, read_varint, section, text
+
+PREFERS = "--prefer-sound"
 
 LINE = re.compile(r"(?P<name>\S+) (?P<counts>\S+ visits=\d+ kept=\d+) sections=\d+ bytes=\d+$")
 
@@ -60,10 +62,14 @@ def difference_of(whole, known):
     return whole[:front] + b"".join(section(*pair) for pair in new), len(sections) - len(new)
 
 
-def has(bases):
-    """What is known to a receiver with these files."""
-    first = first_copies(bases)
-    return lambda key, block: first.get(key) == block
+def has(bases, way=()):
+    """What is known to a receiver with these files: by the first copy of each CID, or by any where sound copies are preferred."""
+    copies = {}
+    for car in bases:
+        for key, block in sections_of(car)[1]:
+            copies.setdefault(key, []).append(block)
+    most = None if PREFERS in way else 1
+    return lambda key, block: block in copies.get(key, [])[:most]
 
 
 def line_of(line, whole, known):
@@ -185,8 +191,8 @@ def restored(room, way, whole, archives, bases, tried):
             continue
         name = found["name"]
         orders = [[archives[name + ".car"], *bases]]
-        # A base may come first if each of its first copies is sound.
-        if all(is_good(key, block) for key, block in first.items()):
+        # A base may come first if each of its first copies is sound, or sound ones are preferred.
+        if PREFERS in way or all(is_good(key, block) for key, block in first.items()):
             orders.append([*bases, archives[name + ".car"]])
         for order, cars in enumerate(orders):
             report, _, again = jobs(room, cars, [tried[name]], *way)
@@ -203,7 +209,7 @@ def random_differences(room, seed, graphs):
         graph, keys = once.random_graph(chance)
         tried = once.random_jobs(chance, keys)
         lines = [job[-1] for job in tried]
-        way = chance.choice(([], ["--once"]))
+        way = chance.choice(([], ["--once"])) + [PREFERS] * (chance.random() < 0.4)
         car = graph.car()
         try:
             whole = jobs(room, [car], lines, *way)
@@ -211,7 +217,7 @@ def random_differences(room, seed, graphs):
                 bases = random_bases(chance, car, whole[2].values())
                 place = f"over {car.hex()} without {[base.hex() for base in bases]}"
                 came = jobs(room, [car], lines, *way, *base_words(room, bases))
-                compare(whole, *came, has(bases), place)
+                compare(whole, *came, has(bases, way), place)
                 differences += len(lines)
                 more = restored(room, way, whole, came[2], bases, {job[0]: job[-1] for job in tried})
                 again = [sum(pair) for pair in zip(again, more)]

@@ -207,12 +207,13 @@ def words_of(job, allowed):
     return words + (["--allow-missing", allowed] if allowed else [])
 
 
-def judge(room, nodes, job, allowed, sections, piece, tail=b"", base=None, files=(), with_paths=False):
+def judge(room, nodes, job, allowed, sections, piece, tail=b"", base=None, files=(), with_paths=False, more=()):
     """Receives a stream, and compares all of it with the model. Returns whether it was accepted."""
     stream = header(job[2]) + b"".join(section(*pair) for pair in sections) + tail
     size, line, status = told(nodes, job, allowed, sections, tail, base, with_paths)
     wanted = (status, line + "\n", *((stream, None) if size is None else (None, stream[:size])))
-    came = received(room, stream, words_of(job, allowed) + [word for file in files for word in ("--with", file)] + ["--paths"] * with_paths, piece)
+    words = [word for file in files for word in ("--with", file)] + ["--paths"] * with_paths + [*more]
+    came = received(room, stream, words_of(job, allowed) + words, piece)
     if came != wanted:
         raise Wrong(f"{came} came and {wanted} was wanted of {job[-1]} --allow-missing {allowed}, of {stream.hex()}")
     return size is None
@@ -264,8 +265,9 @@ def random_bases(room, seed, graphs):
         (room / "blocks.car").write_bytes(graph.car())
         try:
             for index, job in enumerate(once.random_jobs(chance, keys)):
-                files, base = random_base(room, chance, graph)
-                without = [word for file in files for word in ("--without", file)]
+                prefers = ["--prefer-sound"] * (chance.random() < 0.4)
+                files, base = random_base(room, chance, graph, bool(prefers))
+                without = [word for file in files for word in ("--without", file)] + prefers
                 get = [PROGRAM, "get", "--blocks", room / "blocks.car", *words_of(job, ""), *without]
                 done = subprocess.run(get, capture_output=True, timeout=SECONDS_A_RUN)
                 if not done.stdout:
@@ -275,7 +277,8 @@ def random_bases(room, seed, graphs):
                     raise Wrong(f"{job[-1]} has a block of the base, over {graph.car().hex()}")
                 allowed = chance.choice(list(ALLOWED))
                 streams += 1
-                if not judge(room, graph.nodes, job, allowed, sections, PIECES[index % 4], base=base, files=files, with_paths=chance.random() < 0.5):
+                with_base = {"base": base, "files": files, "more": prefers}
+                if not judge(room, graph.nodes, job, allowed, sections, PIECES[index % 4], with_paths=chance.random() < 0.5, **with_base):
                     continue
                 accepted += 1
                 if base:
@@ -283,7 +286,7 @@ def random_bases(room, seed, graphs):
                     at = chance.randrange(len(sections) + 1)
                     more = sections[:at] + [pair] + sections[at:]
                     doubled += 1
-                    if judge(room, graph.nodes, job, allowed, more, chance.choice(PIECES), base=base, files=files, with_paths=chance.random() < 0.5):
+                    if judge(room, graph.nodes, job, allowed, more, chance.choice(PIECES), with_paths=chance.random() < 0.5, **with_base):
                         raise Wrong(f"a block of the base was accepted in {job[-1]}, over {graph.car().hex()}")
         except Wrong as wrong:
             raise Wrong(f"seed {seed}-{number} base: {wrong}") from None
@@ -292,8 +295,9 @@ def random_bases(room, seed, graphs):
     return f"{streams} differences with their bases, {accepted} accepted, {doubled} with a block of the base more"
 
 
-def random_base(room, chance, graph):
-    """One or two files of a base, and the blocks in them that are known: of each CID the first copy, if that is sound."""
+def random_base(room, chance, graph, any_copy):
+    """One or two files of a base, and the blocks in them that are known: of each CID the first copy, if that is sound, or any
+    that is."""
     copies = []
     for key, block in sections_of(graph.car())[1]:
         fate = chance.random()
@@ -308,13 +312,13 @@ def random_base(room, chance, graph):
         file = room / f"base-{number}.car"
         file.write_bytes(header([]) + b"".join(section(*pair) for pair in part))
         files.append(file)
-    first = {}
+    known = once.Graph()
+    known.blocks, known.nodes = {}, graph.nodes
     for file in files:
         for key, block in sections_of(file.read_bytes())[1]:
-            first.setdefault(key, block)
-    known = once.Graph()
-    known.blocks, known.nodes = first, graph.nodes
-    return files, {key: block for key, block in first.items() if once.parts(key)[1] != IDENTITY and known.verdict(key) is None}
+            if key not in known.blocks or any_copy and known.verdict(key) is not None:
+                known.blocks[key] = block
+    return files, {key: block for key, block in known.blocks.items() if once.parts(key)[1] != IDENTITY and known.verdict(key) is None}
 
 
 def changes_of(chance, job, sections):

@@ -61,11 +61,11 @@ not the archive of a job within its limit. Without --limit up to 4294967295\n\
 links are followed, counting the roots, and with --every-arrival up to 1000000.\n\
 \n\
 With --without the archive leaves out each block of which the receiver has a\n\
-sound copy: the first of its CID in these files. With --without-list it leaves\n\
-out each block whose CID the list has: a CIDv1 in base32 on each line, empty\n\
-lines and lines that begin with # aside. A list is trusted, so the receiver runs\n\
-`verify --blocks-only` before `inspect --cids` prints it. The report says how\n\
-many blocks are known.\n\
+sound copy: the first of its CID in these files, or with --prefer-sound any.\n\
+With --without-list it leaves out each block whose CID the list has: a CIDv1 in\n\
+base32 on each line, empty lines and lines that begin with # aside. A list is\n\
+trusted, so the receiver runs `verify --blocks-only` before `inspect --cids`\n\
+prints it. The report says how many blocks are known.\n\
 \n\
 With --allow-missing links to blocks of these codecs that are in no file are no\n\
 skips: the report counts them as absent, and the status doesn't. A root may not\n\

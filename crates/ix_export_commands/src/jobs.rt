@@ -79,11 +79,12 @@ them. So a graph has about as many visits as links. The archive is the same\n\
 unless a run hits its limit.\n\
 \n\
 With --without the archives leave out each block of which the receiver has a\n\
-sound copy: the first of its CID in these files. With --without-list they leave\n\
-out each block whose CID the list has: a CIDv1 in base32 on each line, empty\n\
-lines and lines that begin with # aside. A list is trusted, so the receiver runs\n\
-`verify --blocks-only` before `inspect --cids` prints it. The line of a job in\n\
-the report ends with how many of its blocks are known.\n\
+sound copy: the first of its CID in these files, or with --prefer-sound any.\n\
+With --without-list they leave out each block whose CID the list has: a CIDv1 in\n\
+base32 on each line, empty lines and lines that begin with # aside. A list is\n\
+trusted, so the receiver runs `verify --blocks-only` before `inspect --cids`\n\
+prints it. The line of a job in the report ends with how many of its blocks are\n\
+known.\n\
 \n\
 With --allow-missing links to blocks of these codecs that are in no file are no\n\
 skips: the line of a job ends with how many are absent, and the status doesn't\n\

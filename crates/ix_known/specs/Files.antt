@@ -4,15 +4,16 @@ use Rattle.std.specs.Global.{Vec}
 use Rattle.ix_store.specs.Store.{Blocks}
 use Rattle.ix_store.specs.declared.places.PlaceSet.{PlaceSet}
 use Rattle.ix_sections.specs.declared.files.loader.Copies.TheVariants.{First}
-use Rattle.ix_sections.specs.Files.{read_of, with_file}
+use Rattle.ix_sections.specs.declared.files.store.Reading.{Reading}
+use Rattle.ix_sections.specs.Files.{read_of, blocks_by, with_file}
 use Rattle.ix_known.specs.Base.{BaseMeaning, IsOfBase}
 use Rattle.ix_known.specs.Known.{IsKnownIn}
 
--- the positions in a store of the blocks of which files have a sound copy that counts, which is the first
-pub record IsKnownByFiles (carv2 : Bool) (store : Blocks) (files : List (Vec ℕ)) (places : PlaceSet) : Type 0 where
-  pub base : Blocks
-  pub read_is : read_of (record { carv2 = carv2; copies = First }) files ≡ Ok base
-  pub known : IsKnownIn store base places
+-- the positions in a store of the blocks of which files have a sound copy that counts
+pub record IsKnownByFiles (reading : Reading) (store : Blocks) (files : List (Vec ℕ)) (places : PlaceSet) : Type 0 where
+  pub read : Blocks
+  pub read_is : read_of reading files ≡ Ok read
+  pub known : IsKnownIn store (blocks_by reading.copies read) places
 
 -- a file was added to a base: whatever blocks this had, it has those of the file after them, the first of each CID
 abbrev pub AddsBaseFile : Bool → List ℕ → BaseMeaning → BaseMeaning → Type 0

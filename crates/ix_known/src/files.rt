@@ -2,19 +2,39 @@
 
 ghost use Rattle.std.specs.Prelude.{IfOk, IfErr};
 ghost use Rattle.ix_sections.specs.Files.{IsFirstFault, IsReadFault, with_file};
-ghost use Rattle.ix_sections.specs.declared.files.loader.Copies.TheVariants.{First};
+ghost use Rattle.ix_sections.specs.declared.files.loader.Copies.TheVariants.{First, Sound};
 ghost use Rattle.ix_known.specs.Files.{IsKnownByFiles, AddsBaseFile};
 
 use crate::base::Base;
-use ix_sections::{CarFault, FileFault, payload_in};
+use crate::known::known_places_alone;
+use ix_sections::{CarFault, Copies, FileFault, Reading, blocks_of, payload_in};
 use ix_store::{PlaceSet, Store};
 use std::alloc::Global;
 use std::thread::Threads;
 
-/// Returns the positions in a store of the blocks of which the files of a receiver have a sound copy: the first copy of
-/// each CID counts, over the files, read one after the other. Or returns the first error, and its file. The memory of
-/// a file is freed once its sections were looked up. So many threads look them up and hash them.
+/// Returns the positions in a store of the blocks of which the files of a receiver have a sound copy that counts, over
+/// the files, read one after the other: the first copy of each CID, or any. Or returns the first error, and its file.
+/// So many threads look their sections up and hash them. The memory of a file is freed once that is done, or, where any
+/// copy counts, that of all files at the end.
 pub fn known_of<R: Threads + Sync>(
+    rt: &R,
+    alloc: Global,
+    store: &Store,
+    files: Vec<Vec<u8>>,
+    reading: Reading,
+    threads: usize,
+) -> Result<PlaceSet, FileFault>
+    ensures known { IfOk result (IsKnownByFiles reading store.now files.items) }
+    ensures refused { IfErr result (IsFirstFault reading files.items) }
+{
+    match reading.copies {
+        Copies::First => known_by_first(rt, alloc, store, files, reading.carv2, threads),
+        Copies::Sound => known_by_sound(rt, alloc, store, files, reading.carv2, threads),
+    }
+}
+
+// Returns them where the first copy of each CID counts.
+fn known_by_first<R: Threads + Sync>(
     rt: &R,
     alloc: Global,
     store: &Store,
@@ -22,7 +42,8 @@ pub fn known_of<R: Threads + Sync>(
     carv2: bool,
     threads: usize,
 ) -> Result<PlaceSet, FileFault>
-    ensures known { IfOk result (IsKnownByFiles carv2 store.now files.items) }
+    ensures known { IfOk result
+        (IsKnownByFiles (record { carv2 = carv2; copies = First }) store.now files.items) }
     ensures refused { IfErr result
         (IsFirstFault (record { carv2 = carv2; copies = First }) files.items) }
 {
@@ -37,6 +58,32 @@ pub fn known_of<R: Threads + Sync>(
         }
     }
     Ok(base.into_known())
+}
+
+// Returns them where any copy counts.
+fn known_by_sound<R: Threads + Sync>(
+    rt: &R,
+    alloc: Global,
+    store: &Store,
+    files: Vec<Vec<u8>>,
+    carv2: bool,
+    threads: usize,
+) -> Result<PlaceSet, FileFault>
+    ensures known { IfOk result
+        (IsKnownByFiles (record { carv2 = carv2; copies = Sound }) store.now files.items) }
+    ensures refused { IfErr result
+        (IsFirstFault (record { carv2 = carv2; copies = Sound }) files.items) }
+{
+    let count = files.len();
+    let reading = Reading {
+        carv2,
+        copies: Copies::Sound,
+    };
+    let base = blocks_of(rt, alloc, files, reading, threads)?;
+    match known_places_alone(alloc, store, &base.store) {
+        Ok(known) => Ok(known),
+        Err(_) => Err(FileFault::memory(count)),
+    }
 }
 
 // Reads one file more of a receiver, or returns its first error.

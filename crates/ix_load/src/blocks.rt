@@ -4,7 +4,6 @@ ghost use Rattle.std.specs.Prelude.{◌≡◌, IfOk, IfErr, None};
 ghost use Rattle.std.specs.Arc.{arc_value};
 ghost use Rattle.ix_sections.specs.Files.{IsStoreOf};
 ghost use Rattle.ix_known.specs.Files.{IsKnownByFiles};
-ghost use Rattle.ix_sections.specs.declared.files.loader.Copies.TheVariants.{First};
 ghost use Rattle.ix_load.specs.Refusals.{NamesCarFault, NamesFault, NamesFirst, NamesNone, paths_in};
 
 use clap::ArgMatches;
@@ -115,11 +114,7 @@ impl<'a> BlockFiles<'a> {
             most,
             reading: Reading {
                 carv2: reads_carv2,
-                copies: if PREFER_SOUND.is_given(words) {
-                    Copies::Sound
-                } else {
-                    Copies::First
-                },
+                copies: copies_given(words),
             },
             is_base: false,
         })
@@ -139,7 +134,7 @@ impl<'a> BlockFiles<'a> {
             most,
             reading: Reading {
                 carv2: true,
-                copies: Copies::First,
+                copies: copies_given(words),
             },
             is_base: true,
         };
@@ -159,10 +154,7 @@ impl<'a> BlockFiles<'a> {
         Ok(BlockFiles {
             paths: paths_of(alloc, spec, words, &WITHOUT)?,
             most: self.most,
-            reading: Reading {
-                carv2: self.reading.carv2,
-                copies: Copies::First,
-            },
+            reading: self.reading,
             is_base: true,
         })
     }
@@ -282,8 +274,8 @@ impl<'a> BlockFiles<'a> {
         Ok(())
     }
 
-    /// Returns the positions in a store of the blocks whose first copy, over the files that were read, is sound.
-    /// The memory of a file is freed once its sections were looked up.
+    /// Returns the positions in a store of the blocks of which the files that were read have a sound copy that
+    /// counts.
     pub(crate) fn known_in<R: AllocGlobal + Files + Threads + Sync>(
         &self,
         rt: &R,
@@ -291,12 +283,12 @@ impl<'a> BlockFiles<'a> {
         files: Vec<Vec<u8>>,
         threads: usize,
     ) -> Result<PlaceSet, Failure>
-        ensures known { IfOk result (IsKnownByFiles self.now.reading.carv2 store.now files.items) }
-        ensures refused { IfErr result (NamesFirst (paths_in self.now.paths)
-            (record { carv2 = self.now.reading.carv2; copies = First }) files.items) }
+        ensures known { IfOk result (IsKnownByFiles self.now.reading store.now files.items) }
+        ensures refused { IfErr result
+            (NamesFirst (paths_in self.now.paths) self.now.reading files.items) }
     {
         let kinds = kinds_of(rt.alloc(), files.as_slice())?;
-        match known_of(rt, rt.alloc(), store, files, self.reading.carv2, threads) {
+        match known_of(rt, rt.alloc(), store, files, self.reading, threads) {
             Ok(known) => Ok(known),
             Err(fault) => Err(self.refusal(rt, fault, kinds.as_slice())),
         }
@@ -323,6 +315,15 @@ impl<'a> BlockFiles<'a> {
             Ok(failure) => failure,
             Err(_) => Failure::Fault(RunFault::Memory),
         }
+    }
+}
+
+// Returns which copy of a block counts by the option for it.
+fn copies_given(words: &ArgMatches<'_>) -> Copies {
+    if PREFER_SOUND.is_given(words) {
+        Copies::Sound
+    } else {
+        Copies::First
     }
 }
 

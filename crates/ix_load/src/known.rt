@@ -106,8 +106,8 @@ impl<'a> KnownInputs<'a> {
         self.files.read_more(rt, threads, progress)
     }
 
-    /// Adds to the blocks of a command which of them the receiver has: those whose first copy, over the files
-    /// that were read, is sound, and those whose CID it lists. If nothing is given, nothing is known of it.
+    /// Adds to the blocks of a command which of them the receiver has: those of which the files that were
+    /// read have a sound copy that counts, and those whose CID it lists. If nothing is given, nothing is known of it.
     pub fn add_to<R>(
         &self,
         rt: &R,
@@ -117,7 +117,7 @@ impl<'a> KnownInputs<'a> {
     ) -> Result<(), Failure>
     where
         R: AllocGlobal + Files + Input + Threads + Sync,
-        ensures { OnOk result (AddsKnown self.now.files.reading.carv2 self.now.list files.items
+        ensures { OnOk result (AddsKnown self.now.files.reading self.now.list files.items
             blocks.old blocks.new) }
     {
         self.add_files(rt, blocks, files, threads)?;
@@ -135,7 +135,7 @@ impl<'a> KnownInputs<'a> {
         files: Vec<Vec<u8>>,
         threads: usize,
     ) -> Result<(), Failure>
-        ensures { OnOk result (AddsFiles self.now.files.reading.carv2 files.items
+        ensures { OnOk result (AddsFiles self.now.files.reading files.items
             blocks.old blocks.new) }
     {
         if files.is_empty() {

@@ -2,7 +2,7 @@
 
 use ix_load::{SCOPE, SELECTOR, SELECTOR_HEX};
 use ix_options::{
-    ALLOW_MISSING, ArgKind, ArgSpec, CommandSpec, JSON, NO_SYNC, PROGRESS, QUIET, SYNC,
+    ALLOW_MISSING, ArgKind, ArgSpec, CommandSpec, JSON, NO_SYNC, PREFER_SOUND, PROGRESS, QUIET, SYNC,
 };
 
 const ABOUT: &str = "Check an archive against what was asked for, as it arrives";
@@ -39,8 +39,9 @@ sections go to standard output, which must not be a terminal, as they are\n\
 checked.\n\
 \n\
 With --with the blocks of these files are here already, those whose first copy\n\
-is sound. The archive is the difference that `get --without` writes for them: a\n\
-section whose block is in the base is rejected.\n\
+is sound, or with --prefer-sound any. The archive is the difference that\n\
+`get --without` writes for them: a section whose block is in the base is\n\
+rejected.\n\
 \n\
 \x20 ix_export get --blocks library.car --root CID --without old.car --out - |\n\
 \x20   ix_export receive --root CID --with old.car --out update.car\n\
@@ -130,6 +131,7 @@ pub static SPEC: CommandSpec = CommandSpec {
         SELECTOR_HEX,
         LIMIT,
         WITH,
+        PREFER_SOUND,
         ALLOW_MISSING,
         ANY_HEADER,
         OUT,

@@ -14,8 +14,8 @@ pub struct FileFault {
 }
 
 impl FileFault {
-    // Makes the fault of memory that ran out at a file.
-    pub(crate) fn memory(file: usize) -> FileFault
+    /// Returns the fault of memory that ran out at a file.
+    pub fn memory(file: usize) -> FileFault
         ensures { result.fault.kind ≡ Memory }
     {
         FileFault {

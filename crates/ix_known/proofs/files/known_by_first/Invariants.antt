@@ -4,7 +4,7 @@ use Rattle.ix_store.specs.Store.{Blocks}
 use Rattle.ix_known.specs.Base.{IsOfBase}
 use Rattle.ix_sections.specs.declared.files.loader.Copies.TheVariants.{First}
 use Rattle.ix_sections.specs.Files.{with_files, read_of}
-use Rattle.ix_known.proofs.files.known_of.Given as goal
+use Rattle.ix_known.proofs.files.known_by_first.Given as goal
 
 -- the base has the blocks that were read so far, and these and those of the files that are left are all
 abbrev pub invariant-loop-number : goal.invariant-loop-number
