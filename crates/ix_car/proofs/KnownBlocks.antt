@@ -6,7 +6,7 @@ use Rattle.ix_store.specs.declared.places.PlaceSet.{PlaceSet}
 use Rattle.ix_sections.specs.Writing.{header_of, section_with}
 use Rattle.ix_car.specs.declared.sink.Delivery.{Delivery}
 use Rattle.ix_car.specs.Kept.{kept}
-use Rattle.ix_car.specs.Archive.{Known, is_known, is_known_place, known_at, first_sound, section_of, new_section, new_sections, archive_without, known_by}
+use Rattle.ix_car.specs.Archive.{is_known_place, known_at, first_sound, section_of, new_section, new_sections, archive_without, known_by}
 use Rattle.ix_known.specs.Known.{knows, IsKnownIn}
 use Rattle.ix_car.specs.Report.{at_most, known_count, counts_of}
 use Rattle.ix_car.proofs.FirstSound.{block-none}

@@ -1,5 +1,5 @@
 -- What a base and a difference restore.
-use Rattle.std.proofs.Common.{◌≡◌, ◌⊎◌, inl, inr, ℕ, suc, ◌+◌, Bool, true, false, not, ◌||◌, List, [], ◌∷◌, ◌++◌, length, map, filter, flat_map, refl, sym, ap, ◌∙◌, subst, append_assoc, append-nil}
+use Rattle.std.proofs.Common.{◌≡◌, ◌⊎◌, inl, inr, ℕ, suc, ◌+◌, Bool, true, false, not, List, [], ◌∷◌, ◌++◌, length, map, filter, flat_map, refl, sym, ap, ◌∙◌, subst}
 use Rattle.std.specs.Prelude.{Option, Some, None, is_some, nat_lt, if◌then◌else◌, bytes_eq}
 use Rattle.std.specs.List.{AllByRecursion}
 use Rattle.std.proofs.lemmas.List.Elements.{All-head, All-tail}
@@ -12,7 +12,7 @@ use Rattle.ix_cid.specs.declared.hash_function.HashFunction.TheVariants.{Identit
 use Rattle.ix_cbor.specs.Data.{Data}
 use Rattle.ix_selector.specs.IsEntered.{is_entered}
 use Rattle.ix_selector.specs.Behind.{residual_at, same_residual}
-use Rattle.ix_store.specs.Store.{Blocks, has_cid, with_block, with_blocks, block_of, value_of}
+use Rattle.ix_store.specs.Store.{Blocks, block_of, value_of}
 use Rattle.ix_store.specs.Sound.{AreSoundCopies, first_copies}
 use Rattle.ix_walk.specs.JobMeaning.{JobMeaning}
 use Rattle.ix_walk.specs.Arrivals.{Arrival}
@@ -30,6 +30,7 @@ use Rattle.ix_car.specs.Verified.{is_good, judged, judged_visits, all_judged, ve
 use Rattle.ix_car.specs.Archive.{Known, first_sound, new_section, sections_of, new_sections, archive_with, difference_of, known_by}
 use Rattle.ix_verdict.specs.Verdict.{is_sound}
 use Rattle.ix_known.specs.Known.{knows}
+use Rattle.ix_known.proofs.Lists.{blocks-first}
 use Rattle.ix_car.specs.Report.{skips_of}
 use Rattle.ix_car.specs.Restoring.{pair_with, difference_pairs, AgreesWith, IsWithoutSkips, IsRestoredBy}
 use Rattle.ix_car.proofs.SoundValues.{value_by}

@@ -1,5 +1,5 @@
 -- The positions of a base, as one section more decides.
-use Rattle.std.proofs.Common.{◌≡◌, ◌⊎◌, Bool, true, false, ◌||◌, List, ℕ, [], ◌∷◌, ◌++◌, ◌+◌, ◌<◌, length, take, refl, sym, ap, subst, ◌∙◌, ⊎_elim}
+use Rattle.std.proofs.Common.{◌≡◌, Bool, true, false, ◌||◌, List, ℕ, [], ◌∷◌, ◌++◌, ◌+◌, ◌<◌, length, take, refl, sym, ap, subst, ◌∙◌, ⊎_elim}
 use Rattle.std.specs.Prelude.{Option, Some, Result, OnOk, ◌==◌, bytes_eq, slice_get, slice_index_or, IfSome}
 use Rattle.std.proofs.lemmas.Bool.{cases_Bool, false≢true, eq-eqb, ne_eqb, MatchBool-at_true, MatchBool-at_false}
 use Rattle.std.proofs.lemmas.List.{take_more}

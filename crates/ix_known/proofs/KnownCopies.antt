@@ -1,8 +1,7 @@
 -- The known blocks of a base.
-use Rattle.std.proofs.Common.{◌≡◌, ℕ, Bool, true, false, ◌||◌, List, [], ◌∷◌, ◌++◌, filter, refl, sym, ap, subst, ◌∙◌}
-use Rattle.std.specs.Prelude.{Option, Some, None, is_some, if◌then◌else◌, bytes_eq, option_and_then}
+use Rattle.std.proofs.Common.{◌≡◌, ℕ, Bool, true, false, ◌||◌, List, [], ◌∷◌, ◌++◌, filter, refl, sym, ap, ◌∙◌}
+use Rattle.std.specs.Prelude.{Option, Some, None, if◌then◌else◌, bytes_eq, option_and_then}
 use Rattle.std.specs.Borrow.{Bor}
-use Rattle.std.specs.List.{AllByRecursion}
 use Rattle.std.proofs.lemmas.Slice.Eq.{bytes_eq-Decides}
 use Rattle.ix_cid.specs.Cid.{parts_of, digest_of, hash_function_of}
 use Rattle.ix_cbor.specs.Reading.{data_at}
@@ -11,7 +10,7 @@ use Rattle.ix_store.specs.Store.{Blocks, has_cid, block_of, with_block, with_blo
 use Rattle.ix_store.specs.Sound.{first_copies, verdict_of_copy}
 use Rattle.ix_store.proofs.Stores.{distinct-push}
 use Rattle.ix_known.specs.Known.{knows, known_blocks, known_blocks_of, AreSound, AreKnownBlocks}
-use Rattle.ix_known.proofs.Lists.{has-block, block-left, blocks-first}
+use Rattle.ix_known.proofs.Lists.{block-left, blocks-first}
 use Rattle.ix_known.proofs.Pairs.{knows-none}
 
 abbrev Pair : Type 0

@@ -1,15 +1,11 @@
 -- The sections of a base's file, a batch at a time.
-use Rattle.std.specs.Prelude.{◌≡◌, ℕ, ◌-◌, ◌<◌, ◌≤◌, List, length, map, IsOkAnd}
-use Rattle.std.specs.Borrow.{Bor}
-use Rattle.std.specs.Global.{Vec}
-use Rattle.ix_store.specs.Store.{Blocks, with_blocks}
+use Rattle.std.specs.Prelude.{ℕ, ◌-◌, ◌≤◌, List, length, IsOkAnd}
+use Rattle.ix_store.specs.Store.{Blocks}
 use Rattle.ix_sections.specs.declared.fault.CarFault.{CarFault}
-use Rattle.ix_sections.specs.declared.reader.sections.Section.{Section}
 use Rattle.ix_sections.specs.Gives.{FailsAs}
 use Rattle.ix_sections.specs.Reading.{sections_at}
 use Rattle.ix_known.specs.declared.places.Places.{Places}
 use Rattle.ix_known.specs.Places.{ArePlacesOf}
-use Rattle.ix_known.specs.Findings.{pair_of}
 
 -- an error of the sections that end a file of so many bytes, whatever blocks there are before
 abbrev pub IsFaultIn : ℕ → List ℕ → CarFault → Type 0

@@ -1,12 +1,12 @@
 -- The text of a path: a root's CID and segments, or a URL with these, with the percent-escapes of URLs (RFC 3986, section 2.1).
-use Rattle.std.specs.Prelude.{ℕ, ◌+◌, ◌-◌, ◌*◌, List, [], ◌∷◌, length, drop, map, nat_lt, nat_eq, ◌==◌, if◌then◌else◌, codes, Option, Some, None, unwrap_or, option_map, option_and_then, Result, Ok, Err}
+use Rattle.std.specs.Prelude.{ℕ, ◌+◌, ◌-◌, ◌*◌, List, [], ◌∷◌, length, map, nat_lt, ◌==◌, if◌then◌else◌, Option, Some, None, option_map, option_and_then, Result, Ok, Err}
 use Rattle.std.specs.Global.{Vec}
-use Rattle.std.specs.List.{starts_with, before_first, after_first, onto_first}
+use Rattle.std.specs.List.{onto_first}
 use Rattle.hex.specs.Hex.{hex_digit_value}
 pub use Rattle.ix_cid.specs.Results.{◌>>=◌}
 use Rattle.ix_cid_text.specs.declared.fault.CidTextFault.{CidTextFault}
 use Rattle.ix_cid_text.specs.Text.{cid_of_text}
-use Rattle.ix_cid_text.specs.Location.{before_slash, after_slash, location_of}
+use Rattle.ix_cid_text.specs.Location.{location_of}
 use Rattle.ix_path.specs.declared.error.PathError.{PathError}
 use Rattle.ix_path.specs.declared.error.PathError.TheVariants.{Cid, Escape, TooManySegments}
 use Rattle.ix_path.specs.declared.path.RootPath.{RootPath}

@@ -1,8 +1,8 @@
 -- The block of a CID among the pairs of some CIDs.
 use Rattle.std.proofs.Common.{◌≡◌, inl, inr, ℕ, Bool, true, false, List, [], ◌∷◌, ◌++◌, flat_map, sym, refl, ap, ◌∙◌}
-use Rattle.std.specs.Prelude.{Option, Some, None, is_some, if◌then◌else◌, ◌||◌, bytes_eq}
+use Rattle.std.specs.Prelude.{Option, Some, None, is_some, if◌then◌else◌, bytes_eq}
 use Rattle.std.proofs.lemmas.Slice.Eq.{bytes_eq-Decides}
-use Rattle.ix_store.specs.Store.{Blocks, has_cid, block_of}
+use Rattle.ix_store.specs.Store.{Blocks, block_of}
 use Rattle.ix_car.specs.Restoring.{pair_with}
 use Rattle.ix_walk.proofs.Firsts.{In}
 

@@ -1,12 +1,8 @@
 -- Which blocks may be missing, and which are.
-use Rattle.std.specs.Prelude.{ℕ, Bool, not, ◌&&◌, List, bytes_eq}
-use Rattle.std.specs.List.{list_any}
-use Rattle.ix_cid.specs.Cid.{codec_of}
+use Rattle.std.specs.Prelude.{ℕ, Bool, not, ◌&&◌, List}
 use Rattle.ix_store.specs.Store.{Blocks}
 use Rattle.ix_check.specs.Verdict.{verdict_of}
 use Rattle.ix_verdict.specs.Verdict.{is_missing, passes}
-use Rattle.ix_verdict.specs.declared.allow_missing.AllowMissing.{AllowMissing}
-use Rattle.ix_verdict.specs.AllowMissing.{allows_cid}
 
 -- a CID could have a block, and has none among the sections
 abbrev pub lacks_block : Blocks → List ℕ → Bool

@@ -31,10 +31,6 @@ new_sections_at base store cids =
     flat_map (λ c. pair_with c (block_of store c))
     (filter (λ c. is_some (block_of store c)) (filter (knows store) (new_cids (base_known base) (first_ones cids))))
 
--- the sections of all of them
-abbrev pub sections_at : Blocks → List (List ℕ) → Blocks
-sections_at = new_sections_at []
-
 -- The sections are received after so many visits: each is sound by itself, and they are those of the CIDs of these visits that the
 -- base doesn't have, in their order. The visits are over the base and the sections.
 pub record AreReceived (base : Blocks) (n : ℕ) (job : JobMeaning) (sections : Blocks) : Type 0 where

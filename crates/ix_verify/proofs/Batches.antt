@@ -1,17 +1,15 @@
 -- The sections of a file, read and judged a batch at a time.
-use Rattle.std.proofs.Common.{◌≡◌, ℕ, ◌+◌, ◌-◌, ◌<◌, ◌≤◌, ◌^◌, List, [], ◌∷◌, ◌++◌, Bool, true, false, length, map, refl, sym, ◌∙◌, ap, subst, arith, append_assoc, append-nil, length-append}
-use Rattle.std.specs.Prelude.{Result, Ok, Err, filter, not, if◌then◌else◌}
+use Rattle.std.proofs.Common.{◌≡◌, ℕ, ◌+◌, ◌<◌, ◌≤◌, ◌^◌, List, [], ◌∷◌, ◌++◌, Bool, true, false, length, map, refl, sym, ◌∙◌, ap, subst, arith, length-append}
+use Rattle.std.specs.Prelude.{Result, Ok, filter, not, if◌then◌else◌}
 use Rattle.std.specs.Borrow.{Bor}
 use Rattle.std.specs.Global.{Vec}
-use Rattle.std.proofs.lemmas.List.{map-append, map_push, length-map}
+use Rattle.std.proofs.lemmas.List.{map-append, length-map}
 use Rattle.std.proofs.lemmas.List.Elements.{filter-append}
-use Rattle.ix_sections.specs.declared.fault.CarKind.{CarKind}
 use Rattle.ix_sections.specs.declared.reader.sections.Section.{Section}
-use Rattle.ix_sections.specs.Gives.{FailsAs}
-use Rattle.ix_sections.specs.Reading.{Fault, ◌>>=◌, section_at, header_at}
+use Rattle.ix_sections.specs.Reading.{Fault, ◌>>=◌, header_at}
 use Rattle.ix_sections.specs.SectionView.{section_of, views_of}
-use Rattle.ix_sections.specs.Sections.{SectionMeaning, placed, sections_after, sections_in, section_list}
-use Rattle.ix_sections.proofs.SectionLists.{sections_after-enough, ListGoesOn, ListGoesOn-first, ListGoesOn-more, ListGoesOn-fails, ListGoesOn-last, FailsAs-of}
+use Rattle.ix_sections.specs.Sections.{SectionMeaning, sections_in, section_list}
+use Rattle.ix_sections.proofs.SectionLists.{sections_after-enough, ListGoesOn, ListGoesOn-first, ListGoesOn-last}
 use Rattle.ix_verdict.specs.Verdict.{is_sound}
 use Rattle.ix_verify.specs.declared.noted.Noted.{Noted}
 use Rattle.ix_verify.specs.declared.found.Unsound.{Unsound}

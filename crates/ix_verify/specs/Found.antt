@@ -1,7 +1,5 @@
 -- What is found of a file, as a function of its bytes.
-use Rattle.std.specs.Prelude.{◌≡◌, ℕ, Bool, true, false, not, ◌&&◌, ◌||◌, ◌==◌, List, [], ◌∷◌, length, map, filter, flat_map, codes, bytes_eq, Ok}
-use Rattle.std.specs.List.{list_any}
-use Rattle.ix_cid.specs.Cid.{codec_of}
+use Rattle.std.specs.Prelude.{◌≡◌, ℕ, Bool, true, not, ◌&&◌, ◌||◌, ◌==◌, List, [], ◌∷◌, length, map, filter, flat_map, codes, Ok}
 use Rattle.ix_selector.specs.Pattern.{Pattern, everything}
 use Rattle.ix_walk.specs.JobMeaning.{JobMeaning}
 use Rattle.ix_store.specs.Store.{Blocks}
@@ -29,7 +27,7 @@ use Rattle.ix_sections.specs.declared.files.loader.Copies.TheVariants.{First, So
 use Rattle.ix_verify.specs.declared.found.Outcome.{Outcome}
 use Rattle.ix_verify.specs.declared.found.Outcome.TheVariants.{Sound as SoundFile}
 use Rattle.ix_verdict.specs.declared.allow_missing.AllowMissing.{AllowMissing}
-use Rattle.ix_verdict.specs.AllowMissing.{allow_none, allows_cid, may_lack}
+use Rattle.ix_verdict.specs.AllowMissing.{allow_none, may_lack}
 use Rattle.ix_verify.specs.declared.found.Unsound.{Unsound}
 use Rattle.ix_verify.specs.declared.found.Findings.{Findings}
 

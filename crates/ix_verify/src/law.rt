@@ -85,7 +85,7 @@ pub fn base_files_and_difference_restore()
 
 /// States what an archive's writer has in the end, if it had no bytes at first and the blocks of a base
 /// were left out: an archive whose guarantee held for a store, a job, and the positions of these blocks,
-/// as `known_places` returns them, has written the job's difference from the base, if its calls are
+/// as `known_of` returns them, has written the job's difference from the base, if its calls are
 /// faithful to the job and it was done. If the job skips nothing, a file of what was written restores it,
 /// followed by the base's files.
 pub fn written_difference_restores<W: Write>()

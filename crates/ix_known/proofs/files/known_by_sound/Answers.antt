@@ -1,5 +1,4 @@
-use Rattle.std.proofs.Common.{subst, ◌∙◌, ap}
-use Rattle.std.specs.Arc.{arc_value}
+use Rattle.std.proofs.Common.{subst, ◌∙◌}
 use Rattle.ix_store.specs.Store.{Blocks}
 use Rattle.ix_known.specs.Known.{IsKnownIn}
 use Rattle.ix_known.proofs.files.known_by_sound.Goals as goal

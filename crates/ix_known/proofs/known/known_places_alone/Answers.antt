@@ -1,6 +1,6 @@
-use Rattle.std.proofs.Common.{◌≡◌, ◌<◌, ◌≤◌, length, arith}
+use Rattle.std.proofs.Common.{◌≤◌, length, arith}
 use Rattle.ix_known.proofs.KnownIn.{first-none, first-step, first-all}
-use Rattle.ix_car.proofs.known.known_places_alone.Goals as goal
+use Rattle.ix_known.proofs.known.known_places_alone.Goals as goal
 
 pub loop-place-init : goal.loop-place-init
 loop-place-init c = first-none _ c.new-known.result c.new-known.ensures

@@ -1,4 +1,4 @@
-use Rattle.std.proofs.Common.{◌≡◌, length, sym, ◌∙◌, rules}
+use Rattle.std.proofs.Common.{◌≡◌, length, sym, rules}
 use Rattle.std.proofs.lemmas.Result.{err_from_is_err_and}
 use Rattle.ix_known.proofs.Sections.{read-first, read-more, read-fault, read-all}
 use Rattle.ix_known.proofs.places.Places.add_sections.Goals as goal
