@@ -87,7 +87,7 @@ abbrev pub archive_by : Blocks → List (List ℕ) → List (List ℕ) → List 
 archive_by store roots cs = header_of roots ++ flat_map (λ c. section_with c (block_of store c)) (filter (knows store) cs)
 
 -- so an archive depends on the first occurrences alone
-archive-cids : (store : Blocks) (roots : List (List ℕ)) (ds : List Delivery) → AreJudged store ds → archive_with store roots ds ≡ archive_by store roots (first_ones (map cid_told ds))
+pub archive-cids : (store : Blocks) (roots : List (List ℕ)) (ds : List Delivery) → AreJudged store ds → archive_with store roots ds ≡ archive_by store roots (first_ones (map cid_told ds))
 archive-cids store roots ds h =
     ap (λ l. header_of roots ++ l) (sym (flat_map-map (λ c. section_with c (block_of store c)) cid_told (first_sound ds)))
     ∙ ap (λ l. header_of roots ++ flat_map (λ c. section_with c (block_of store c)) l) (first_sound-cids store ds h)
@@ -118,12 +118,12 @@ visits-judged store number n [] = tt
 visits-judged store number n (x ∷ xs) = (refl, visits-judged store number (n + 1) xs)
 
 -- the same, however they are numbered
-numbered-cids : (store : Blocks) (number : ℕ) (number_of : Arrival → ℕ) (xs : List Arrival) → map cid_told (map (λ a. judged store (visit_of store number (number_of a) a)) xs) ≡ map cid_of xs
+pub numbered-cids : (store : Blocks) (number : ℕ) (number_of : Arrival → ℕ) (xs : List Arrival) → map cid_told (map (λ a. judged store (visit_of store number (number_of a) a)) xs) ≡ map cid_of xs
 numbered-cids store number number_of [] = refl
 numbered-cids store number number_of (x ∷ xs) = ap (λ l. x.cid ∷ l) (numbered-cids store number number_of xs)
 
 -- the same, however they are numbered
-numbered-judged : (store : Blocks) (number : ℕ) (number_of : Arrival → ℕ) (xs : List Arrival) → AreJudged store (map (λ a. judged store (visit_of store number (number_of a) a)) xs)
+pub numbered-judged : (store : Blocks) (number : ℕ) (number_of : Arrival → ℕ) (xs : List Arrival) → AreJudged store (map (λ a. judged store (visit_of store number (number_of a) a)) xs)
 numbered-judged store number number_of [] = tt
 numbered-judged store number number_of (x ∷ xs) = (refl, numbered-judged store number number_of xs)
 
@@ -157,7 +157,7 @@ archive-verified store number job =
 -- ---- going in once
 
 -- the verified traversal expands what is sound
-verified-sound : (store : Blocks) (job : JobMeaning) → verified_arrivals store job ≡ arrivals_from (is_entered job.selector) (sound_value store) job.limit 0 job.roots
+pub verified-sound : (store : Blocks) (job : JobMeaning) → verified_arrivals store job ≡ arrivals_from (is_entered job.selector) (sound_value store) job.limit 0 job.roots
 verified-sound store job = λ i. arrivals_from (is_entered job.selector) (λ c. passing-sound store c i) job.limit 0 job.roots
 
 -- what is kept isn't more

@@ -16,4 +16,6 @@ pub mod GoingOnce
 pub mod Prefixes
 pub mod Each
 pub mod Visited
+pub mod VerifiedCids
 pub mod Restored
+pub mod RestoredBesideSkips

@@ -18,7 +18,7 @@ use Rattle.ix_walk.specs.JobMeaning.{JobMeaning}
 use Rattle.ix_walk.specs.Arrivals.{Arrival}
 use Rattle.ix_walk.specs.Visits.{believed, arrivals_of, visits_from, is_over_limit}
 use Rattle.ix_walk.specs.Once.{roots_from, first_ones, bytes_match_by, sound_value, once_arrivals}
-use Rattle.ix_walk.proofs.Firsts.{In, filter-in, first_ones-in, in-first_ones}
+use Rattle.ix_walk.proofs.Firsts.{In, filter-in, in-filter, first_ones-in, in-first_ones}
 use Rattle.ix_walk.proofs.Links.{all-weaker, all-both, cid_of}
 use Rattle.ix_verdict.specs.declared.verdict.Verdict.{Verdict}
 use Rattle.ix_verdict.specs.declared.verdict.Verdict.TheVariants.{Codec, Hash, Missing, Damaged, Malformed, Sound, Inline}
@@ -34,14 +34,15 @@ use Rattle.ix_known.proofs.Lists.{blocks-first}
 use Rattle.ix_car.specs.Report.{skips_of}
 use Rattle.ix_car.specs.Restoring.{pair_with, difference_pairs, AgreesWith, IsWithoutSkips, IsRestoredBy}
 use Rattle.ix_car.proofs.SoundValues.{value_by}
+use Rattle.ix_car.proofs.VerifiedCids.{visited, verified-cids, verified-judged}
 use Rattle.ix_car.proofs.Numbers.{judged_visits-all, arrivals-by, kept-all}
-use Rattle.ix_car.proofs.GoingOnce.{cid_told, map-filter, first_sound-cids, archive_by, sound-block, visits-cids, visits-judged, archive-visits}
+use Rattle.ix_car.proofs.GoingOnce.{cid_told, map-filter, first_sound-cids, archive_by, sound-block, visits-cids, archive-visits}
 use Rattle.ix_car.proofs.Visited.{IsSameInside, from-same, once-same}
 
 -- ---- the pairs of a difference
 
 -- the pairs of deliveries
-abbrev pairs_of : Blocks → List Delivery → Blocks
+abbrev pub pairs_of : Blocks → List Delivery → Blocks
 pairs_of store ds = flat_map (λ d. pair_with d.visit.cid (block_of store d.visit.cid)) ds
 
 -- the section of a pair
@@ -99,7 +100,7 @@ block-left (x ∷ xs) ys c b h =
     [ true ↦ λ e. e | false ↦ λ e. block-left xs ys c b e ]) h
 
 -- and where it has none, the second list's is
-block-right : (xs ys : Blocks) (c : List ℕ) → block_of xs c ≡ None → block_of (xs ++ ys) c ≡ block_of ys c
+pub block-right : (xs ys : Blocks) (c : List ℕ) → block_of xs c ≡ None → block_of (xs ++ ys) c ≡ block_of ys c
 block-right [] ys c h = refl
 block-right (x ∷ xs) ys c h =
     (elim (bytes_eq x.0 c) as (λ v. (if v then Some x.1 else block_of xs c) ≡ None → (if v then Some x.1 else block_of (xs ++ ys) c) ≡ block_of ys c)
@@ -116,43 +117,29 @@ block-passes (e ∷ es) c b all h = by (block-passes es c b (All-tail is_passing
   by later true is at = ap (λ o. passes (verdict_with c o)) (sym at) ∙ ap (λ d. passes (verdict_with d (Some e.1))) (sym ((bytes_eq-Decides e.0 c).0 is)) ∙ All-head is_passing e es all
   by later false isnt at = later at
 
-module _ (store : Blocks) (c b : List ℕ) (at : block_of store c ≡ Some b) where
-  -- a pair of another CID isn't found
-  pair-other : (e : List ℕ) (o : Option (List ℕ)) (ps : Blocks) → bytes_eq e c ≡ false → block_of (pair_with e o ++ ps) c ≡ block_of ps c
-  pair-other e None ps h = refl
-  pair-other e (Some x) ps h = ap (λ v. if v then Some x else block_of ps c) h
+-- a pair of another CID isn't found
+pair-other : (c e : List ℕ) (o : Option (List ℕ)) (ps : Blocks) → bytes_eq e c ≡ false → block_of (pair_with e o ++ ps) c ≡ block_of ps c
+pair-other c e None ps h = refl
+pair-other c e (Some x) ps h = ap (λ v. if v then Some x else block_of ps c) h
 
-  -- the store's block is found among the pairs of deliveries, if one of them has the CID
-  pair-found : (ds : List Delivery) → In c (map cid_told ds) → block_of (pairs_of store ds) c ≡ Some b
-  pair-found [] h = absurd h
-  pair-found (d ∷ ds) h = by (pair-found ds) (bytes_eq d.visit.cid c) refl h where
-    by : (In c (map cid_told ds) → block_of (pairs_of store ds) c ≡ Some b) → (v : Bool) → bytes_eq d.visit.cid c ≡ v → In c (map cid_told (d ∷ ds)) → block_of (pair_with d.visit.cid (block_of store d.visit.cid) ++ pairs_of store ds) c ≡ Some b
-    by later true is i =
-        ap (λ o. block_of (pair_with d.visit.cid o ++ pairs_of store ds) c) (ap (block_of store) ((bytes_eq-Decides d.visit.cid c).0 is) ∙ at)
-        ∙ ap (λ v. if v then Some b else block_of (pairs_of store ds) c) is
-    by later false isnt (inl e) = absurd (let is = (bytes_eq-Decides d.visit.cid c).1 e in let bad : true ≡ false = sym is ∙ isnt in cc bad)
-    by later false isnt (inr i) = pair-other d.visit.cid (block_of store d.visit.cid) (pairs_of store ds) isnt ∙ later i
+-- the store's block is found among the pairs of deliveries, if one of them has the CID
+pair-found : (store : Blocks) (c b : List ℕ) → block_of store c ≡ Some b → (ds : List Delivery) → In c (map cid_told ds) → block_of (pairs_of store ds) c ≡ Some b
+pair-found store c b at [] h = absurd h
+pair-found store c b at (d ∷ ds) h = by (pair-found store c b at ds) (bytes_eq d.visit.cid c) refl h where
+  by : (In c (map cid_told ds) → block_of (pairs_of store ds) c ≡ Some b) → (v : Bool) → bytes_eq d.visit.cid c ≡ v → In c (map cid_told (d ∷ ds)) → block_of (pair_with d.visit.cid (block_of store d.visit.cid) ++ pairs_of store ds) c ≡ Some b
+  by later true is i =
+      ap (λ o. block_of (pair_with d.visit.cid o ++ pairs_of store ds) c) (ap (block_of store) ((bytes_eq-Decides d.visit.cid c).0 is) ∙ at)
+      ∙ ap (λ v. if v then Some b else block_of (pairs_of store ds) c) is
+  by later false isnt (inl e) = absurd (let is = (bytes_eq-Decides d.visit.cid c).1 e in let bad : true ≡ false = sym is ∙ isnt in cc bad)
+  by later false isnt (inr i) = pair-other c d.visit.cid (block_of store d.visit.cid) (pairs_of store ds) isnt ∙ later i
 
--- no pair of a known CID is among those of the others
-pair-known : (store : Blocks) (known : List ℕ → Bool) (c : List ℕ) → known c ≡ true → (ds : List Delivery) → block_of (pairs_of store (filter (λ d. not (known d.visit.cid)) ds)) c ≡ None
-pair-known store known c is [] = refl
-pair-known store known c is (d ∷ ds) = by (pair-known store known c is ds) (known d.visit.cid) refl where
-  rest : Blocks
-  rest = pairs_of store (filter (λ e. not (known e.visit.cid)) ds)
-
-  skipped : (o : Option (List ℕ)) → bytes_eq d.visit.cid c ≡ false → block_of (pair_with d.visit.cid o ++ rest) c ≡ block_of rest c
-  skipped None h = refl
-  skipped (Some x) h = ap (λ v. if v then Some x else block_of rest c) h
-
-  apart : (v : Bool) → bytes_eq d.visit.cid c ≡ v → known d.visit.cid ≡ false → bytes_eq d.visit.cid c ≡ false
-  apart true same isnt = absurd (let e = ap known ((bytes_eq-Decides d.visit.cid c).0 same) in let bad : true ≡ false = sym is ∙ sym e ∙ isnt in cc bad)
-  apart false same isnt = same
-
-  by : block_of rest c ≡ None → (v : Bool) → known d.visit.cid ≡ v → block_of (pairs_of store (filter (λ e. not (known e.visit.cid)) (d ∷ ds))) c ≡ None
-  by later true e = ap (λ v. block_of (pairs_of store (if not v then d ∷ filter (λ x. not (known x.visit.cid)) ds else filter (λ x. not (known x.visit.cid)) ds)) c) e ∙ later
-  by later false e =
-      ap (λ v. block_of (pairs_of store (if not v then d ∷ filter (λ x. not (known x.visit.cid)) ds else filter (λ x. not (known x.visit.cid)) ds)) c) e
-      ∙ skipped (block_of store d.visit.cid) (apart (bytes_eq d.visit.cid c) refl e) ∙ later
+-- no block is found, if none of them has it
+pair-absent : (store : Blocks) (c : List ℕ) (ds : List Delivery) → (In c (map cid_told ds) → ⊥) → block_of (pairs_of store ds) c ≡ None
+pair-absent store c [] h = refl
+pair-absent store c (d ∷ ds) h = by (pair-absent store c ds (λ i. h (inr i))) (bytes_eq d.visit.cid c) refl where
+  by : block_of (pairs_of store ds) c ≡ None → (v : Bool) → bytes_eq d.visit.cid c ≡ v → block_of (pair_with d.visit.cid (block_of store d.visit.cid) ++ pairs_of store ds) c ≡ None
+  by later true is = absurd (h (inl ((bytes_eq-Decides d.visit.cid c).0 is)))
+  by later false isnt = pair-other c d.visit.cid (block_of store d.visit.cid) (pairs_of store ds) isnt ∙ later
 
 -- ---- nothing is skipped
 
@@ -224,7 +211,7 @@ verified-all store number job good =
 -- ---- what a good CID's block decides
 
 -- a good verdict is on a block, or on inline data
-good-cases : (v : Verdict) → passes v ≡ true → (is_sound v ≡ true) ⊎ (v ≡ Inline)
+pub good-cases : (v : Verdict) → passes v ≡ true → (is_sound v ≡ true) ⊎ (v ≡ Inline)
 good-cases Codec h = absurd (cc h)
 good-cases Hash h = absurd (cc h)
 good-cases Missing h = absurd (cc h)
@@ -244,23 +231,23 @@ not-inline hash c true (Some b) h = by (bytes_eq (hash b) (digest_of c)) (is_no_
   by false bad e = cc e
 
 -- the data of a CID with this block, if it is sound
-abbrev sound_by : List ℕ → Option HashFunction → Option (List ℕ) → Option Data
+abbrev pub sound_by : List ℕ → Option HashFunction → Option (List ℕ) → Option Data
 sound_by c f block = if bytes_match_by f (digest_of c) block then value_by c f block else None
 
 -- with either block, the verdict is the same and the same is expanded
-abbrev IsSameWith : List ℕ → Option HashFunction → Option (List ℕ) → Option (List ℕ) → Type 0
+abbrev pub IsSameWith : List ℕ → Option HashFunction → Option (List ℕ) → Option (List ℕ) → Type 0
 IsSameWith c f block other =
     ((if has_codec c then verdict_by f c other else Codec) ≡ (if has_codec c then verdict_by f c block else Codec)) × (value_by c f other ≡ value_by c f block) × (sound_by c f other ≡ sound_by c f block)
 
 -- so it is for inline data
-inline-same : (c : List ℕ) (f : Option HashFunction) (block other : Option (List ℕ)) → (if has_codec c then verdict_by f c block else Codec) ≡ Inline → IsSameWith c f block other
+pub inline-same : (c : List ℕ) (f : Option HashFunction) (block other : Option (List ℕ)) → (if has_codec c then verdict_by f c block else Codec) ≡ Inline → IsSameWith c f block other
 inline-same c None block other h = (refl, refl, refl)
 inline-same c (Some Identity) block other h = (refl, refl, refl)
 inline-same c (Some Sha2_256) block other h = absurd (not-inline sha256 c (has_codec c) block h)
 inline-same c (Some Sha2_512) block other h = absurd (not-inline sha512 c (has_codec c) block h)
 
 -- and for a sound block that is the same
-good-same : (c : List ℕ) (f : Option HashFunction) (block other : Option (List ℕ)) → passes (if has_codec c then verdict_by f c block else Codec) ≡ true
+pub good-same : (c : List ℕ) (f : Option HashFunction) (block other : Option (List ℕ)) → passes (if has_codec c then verdict_by f c block else Codec) ≡ true
     → (is_sound (if has_codec c then verdict_by f c block else Codec) ≡ true → other ≡ block) → IsSameWith c f block other
 good-same c f block other good same = by (good-cases (if has_codec c then verdict_by f c block else Codec) good) where
   by : (is_sound (if has_codec c then verdict_by f c block else Codec) ≡ true) ⊎ ((if has_codec c then verdict_by f c block else Codec) ≡ Inline) → IsSameWith c f block other
@@ -271,7 +258,7 @@ good-same c f block other good same = by (good-cases (if has_codec c then verdic
 
 module _ (store other : Blocks) where
   -- the other store has the same block under a CID for which this one has a sound one
-  abbrev Has : List ℕ → Type 0
+  abbrev pub Has : List ℕ → Type 0
   Has c = knows store c ≡ true → block_of other c ≡ block_of store c
 
   -- a CID has the same verdict in both, and the same data
@@ -300,7 +287,7 @@ module _ (store other : Blocks) where
         ∙ sym here
 
   -- the same CIDs have sections, with the same blocks
-  texts-same : (cs : List (List ℕ)) → ((c : List ℕ) → In c cs → (knows other c ≡ knows store c) × Has c)
+  pub texts-same : (cs : List (List ℕ)) → ((c : List ℕ) → In c cs → (knows other c ≡ knows store c) × Has c)
       → flat_map (λ c. section_with c (block_of other c)) (filter (knows other) cs) ≡ flat_map (λ c. section_with c (block_of store c)) (filter (knows store) cs)
   texts-same [] h = refl
   texts-same (c ∷ cs) h =
@@ -344,11 +331,7 @@ module _ (store other : Blocks) where
 
 -- ---- the difference and the base
 
-module _ (store base : Blocks) (number : ℕ) (job : JobMeaning) (agrees : AgreesWith base store) (done : IsWithoutSkips store number job) where
-  -- the CIDs that are visited
-  abbrev cids : List (List ℕ)
-  cids = map cid_of (arrivals_of store job)
-
+module _ (store base : Blocks) (number : ℕ) (job : JobMeaning) (agrees : AgreesWith base store) where
   abbrev new : List Delivery
   new = new_sections (known_by base) store (verified store number job)
 
@@ -356,28 +339,39 @@ module _ (store base : Blocks) (number : ℕ) (job : JobMeaning) (agrees : Agree
   has_block c = is_some (block_of store c)
 
   -- the difference has the sound CIDs that the base doesn't know
-  new-cids : map cid_told new ≡ filter (λ c. not (knows base c)) (filter has_block (filter (knows store) (first_ones cids)))
+  new-cids : map cid_told new ≡ filter (λ c. not (knows base c)) (filter has_block (filter (knows store) (first_ones (visited store job))))
   new-cids =
       map-filter (λ c. not (knows base c)) (sections_of store (verified store number job))
       ∙ ap (filter (λ c. not (knows base c)))
       (map-filter has_block (first_sound (verified store number job))
       ∙ ap (filter has_block)
-      (ap (λ l. map cid_told (first_sound l)) (verified-all store number job (good-all store number job done))
-      ∙ first_sound-cids store (all_judged store number job) (visits-judged store number 0 (arrivals_of store job))
-      ∙ ap (λ l. filter (knows store) (first_ones l)) (visits-cids store number 0 (arrivals_of store job))))
+      (first_sound-cids store (verified store number job) (verified-judged store number job)
+      ∙ ap (λ l. filter (knows store) (first_ones l)) (verified-cids store number job)))
 
   -- of a CID that the base doesn't know, it has the store's block
-  new-there : (c b : List ℕ) → In c cids → knows store c ≡ true → block_of store c ≡ Some b → knows base c ≡ false → block_of (pairs_of store new) c ≡ Some b
+  new-there : (c b : List ℕ) → In c (visited store job) → knows store c ≡ true → block_of store c ≡ Some b → knows base c ≡ false → block_of (pairs_of store new) c ≡ Some b
   new-there c b i sound at unknown =
       pair-found store c b at new
       (subst (In c) (sym new-cids)
-      (filter-in (λ e. not (knows base e)) c (filter has_block (filter (knows store) (first_ones cids)))
-      (filter-in has_block c (filter (knows store) (first_ones cids)) (filter-in (knows store) c (first_ones cids) (in-first_ones c cids i) sound) (ap is_some at))
+      (filter-in (λ e. not (knows base e)) c (filter has_block (filter (knows store) (first_ones (visited store job))))
+      (filter-in has_block c (filter (knows store) (first_ones (visited store job))) (filter-in (knows store) c (first_ones (visited store job)) (in-first_ones c (visited store job) i) sound) (ap is_some at))
       (ap not unknown)))
 
-  -- of one that the base knows, it has none
+  -- a CID in it is sound, and the base doesn't know it
+  new-sound : (c : List ℕ) → In c (map cid_told new) → (knows store c ≡ true) × (not (knows base c) ≡ true)
+  new-sound c i =
+      let unknown = in-filter (λ e. not (knows base e)) c (filter has_block (filter (knows store) (first_ones (visited store job)))) (subst (In c) new-cids i) in
+      let there = in-filter has_block c (filter (knows store) (first_ones (visited store job))) unknown.0 in
+      let sound = in-filter (knows store) c (first_ones (visited store job)) there.0 in
+      (sound.1, unknown.1)
+
+  -- so of one that the base knows it has no block
   new-not : (c : List ℕ) → knows base c ≡ true → block_of (pairs_of store new) c ≡ None
-  new-not c known = pair-known store (λ e. knows base e) c known (sections_of store (verified store number job))
+  new-not c known = pair-absent store c new (λ i. let bad : true ≡ false = sym (new-sound c i).1 ∙ ap not known in cc bad)
+
+  -- nor of one that isn't sound
+  pub new-none : (c : List ℕ) → knows store c ≡ false → block_of (pairs_of store new) c ≡ None
+  new-none c unsound = pair-absent store c new (λ i. let bad : true ≡ false = sym (new-sound c i).0 ∙ unsound in cc bad)
 
   -- the block of a sound CID
   sound-at : (c : List ℕ) → knows store c ≡ true → (b : List ℕ) × (block_of store c ≡ Some b)
@@ -387,7 +381,7 @@ module _ (store base : Blocks) (number : ℕ) (job : JobMeaning) (agrees : Agree
     by (Some b) h = (b, refl)
 
   -- the difference first
-  first-has : (c : List ℕ) → In c cids → Has store (first_copies (pairs_of store new ++ base)) c
+  pub first-has : (c : List ℕ) → In c (visited store job) → Has store (first_copies (pairs_of store new ++ base)) c
   first-has c i sound =
       let block = sound-at c sound in
       blocks-first [] (pairs_of store new ++ base) c ∙ by (knows base c) refl block.0 block.1 where
@@ -413,7 +407,7 @@ module _ (store base : Blocks) (number : ℕ) (job : JobMeaning) (agrees : Agree
       by (Some b) at = absurd (unsound (inline (ap (λ o. passes (verdict_with c o)) at ∙ block-passes (first_copies base) c b all (blocks-first [] base c ∙ at))))
 
     -- the base first
-    last-has : (c : List ℕ) → In c cids → Has store (first_copies (base ++ pairs_of store new)) c
+    pub last-has : (c : List ℕ) → In c (visited store job) → Has store (first_copies (base ++ pairs_of store new)) c
     last-has c i sound =
         let block = sound-at c sound in
         blocks-first [] (base ++ pairs_of store new) c ∙ by (knows base c) refl block.0 block.1 where
@@ -422,20 +416,25 @@ module _ (store base : Blocks) (number : ℕ) (job : JobMeaning) (agrees : Agree
           by false unknown b at = block-right base (pairs_of store new) c (not-there c sound unknown) ∙ new-there c b i sound at unknown ∙ sym at
 
 -- what holds of each CID holds of all visits
-all-visits : (P : List ℕ → Type 0) (xs : List Arrival) → ((c : List ℕ) → In c (map cid_of xs) → P c) → AllByRecursion (λ a. P a.cid) xs
+pub all-visits : (P : List ℕ → Type 0) (xs : List Arrival) → ((c : List ℕ) → In c (map cid_of xs) → P c) → AllByRecursion (λ a. P a.cid) xs
 all-visits P [] h = tt
 all-visits P (x ∷ xs) h = (h x.cid (inl refl), all-visits P xs (λ c i. h c (inr i)))
+
+-- a job that skips nothing visits what is verified
+all-visited : (store : Blocks) (number : ℕ) (job : JobMeaning) → IsWithoutSkips store number job → map cid_of (arrivals_of store job) ≡ visited store job
+all-visited store number job done =
+    sym (visits-cids store number 0 (arrivals_of store job)) ∙ ap (map cid_told) (sym (verified-all store number job (good-all store number job done))) ∙ verified-cids store number job
 
 -- the law `DifferenceThenBaseRestores`
 pub difference-first : (store base : Blocks) (number : ℕ) (job : JobMeaning) → AgreesWith base store → IsWithoutSkips store number job
     → IsRestoredBy store number job (first_copies (difference_pairs (known_by base) store number job ++ base))
 difference-first store base number job agrees done =
     let other : Blocks = first_copies (difference_pairs (known_by base) store number job ++ base) in
-    restored store other number job done (all-visits (Has store other) (arrivals_of store job) (first-has store base number job agrees done))
+    restored store other number job done (all-visits (Has store other) (arrivals_of store job) (λ c i. first-has store base number job agrees c (subst (In c) (all-visited store number job done) i)))
 
 -- the law `BaseThenDifferenceRestores`
 pub base-first : (store base : Blocks) (number : ℕ) (job : JobMeaning) → AreSoundCopies (first_copies base) → AgreesWith base store → IsWithoutSkips store number job
     → IsRestoredBy store number job (first_copies (base ++ difference_pairs (known_by base) store number job))
 base-first store base number job all agrees done =
     let other : Blocks = first_copies (base ++ difference_pairs (known_by base) store number job) in
-    restored store other number job done (all-visits (Has store other) (arrivals_of store job) (last-has store base number job agrees done all))
+    restored store other number job done (all-visits (Has store other) (arrivals_of store job) (λ c i. last-has store base number job agrees all c (subst (In c) (all-visited store number job done) i)))

@@ -23,7 +23,7 @@ use Rattle.ix_car.specs.Archive.{Known, is_known, known_at, first_sound, section
 use Rattle.ix_verdict.specs.Verdict.{is_sound}
 use Rattle.ix_known.specs.Known.{IsKnownIn}
 use Rattle.ix_car.specs.Report.{counts_of}
-use Rattle.ix_car.specs.Restoring.{difference_pairs, AgreesWith, IsWithoutSkips, IsRestoredBy}
+use Rattle.ix_car.specs.Restoring.{difference_pairs, AgreesWith, IsWithoutSkips, IsRestoredBy, SkipsOnlyUnknown, IsRestoredBesideSkips}
 use Rattle.ix_car.specs.ArchiveMeaning.{ArchiveMeaning, HasArchived, calls_of}
 use Rattle.ix_car.specs.Archived.{IsArchived, IsBeginning, TellsBeginning}
 
@@ -155,3 +155,15 @@ abbrev pub BaseThenDifferenceRestores : Type 0
 BaseThenDifferenceRestores =
     (store base : Blocks) (number : ℕ) (job : JobMeaning) → AreSoundCopies (first_copies base) → AgreesWith base store → IsWithoutSkips store number job
     → IsRestoredBy store number job (first_copies (base ++ difference_pairs (known_by base) store number job))
+
+-- a job that skips only what the base doesn't know is restored by its difference followed by the base, beside its skips
+abbrev pub DifferenceThenBaseRestoresBesideSkips : Type 0
+DifferenceThenBaseRestoresBesideSkips =
+    (store base : Blocks) (number : ℕ) (job : JobMeaning) → AgreesWith base store → SkipsOnlyUnknown base store number job
+    → IsRestoredBesideSkips store number job (first_copies (difference_pairs (known_by base) store number job ++ base))
+
+-- and by the base followed by the difference, if the first copies in the base are all sound
+abbrev pub BaseThenDifferenceRestoresBesideSkips : Type 0
+BaseThenDifferenceRestoresBesideSkips =
+    (store base : Blocks) (number : ℕ) (job : JobMeaning) → AreSoundCopies (first_copies base) → AgreesWith base store → SkipsOnlyUnknown base store number job
+    → IsRestoredBesideSkips store number job (first_copies (base ++ difference_pairs (known_by base) store number job))

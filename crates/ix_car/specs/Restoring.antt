@@ -1,5 +1,5 @@
 -- What a base and a difference restore.
-use Rattle.std.specs.Prelude.{◌≡◌, ℕ, true, false, List, [], ◌∷◌, Option, None, Some, flat_map}
+use Rattle.std.specs.Prelude.{◌≡◌, ℕ, true, false, List, [], ◌∷◌, Option, None, Some, map, flat_map, All}
 use Rattle.ix_store.specs.Store.{Blocks, block_of}
 use Rattle.ix_walk.specs.JobMeaning.{JobMeaning}
 use Rattle.ix_walk.specs.Visits.{is_over_limit}
@@ -31,3 +31,20 @@ pub record IsWithoutSkips (store : Blocks) (number : ℕ) (job : JobMeaning) : T
 pub record IsRestoredBy (store : Blocks) (number : ℕ) (job : JobMeaning) (other : Blocks) : Type 0 where
   pub done : IsWithoutSkips other number job
   pub same_archive : archive_of other number job ≡ archive_of store number job
+
+-- the CIDs that a job skips, in order
+abbrev pub skipped_cids : Blocks → ℕ → JobMeaning → List (List ℕ)
+skipped_cids store number job = map (λ s. s.cid) (skips_of (judged_visits store number job))
+
+-- a job is within its limit over a store, and the base has no sound block under a CID that it skips there
+pub record SkipsOnlyUnknown (base store : Blocks) (number : ℕ) (job : JobMeaning) : Type 0 where
+  pub within : is_over_limit store job ≡ false
+  pub unknown : All (λ c. knows base c ≡ false) (skipped_cids store number job)
+
+-- over another store, the archive of the job is the same, byte for byte. If the job is within its limit there, it skips the same
+-- CIDs, in the same order; a verdict may be another one, as Damaged for Missing. With link-visit-once it is within its limit; at
+-- every link it need not be, since it goes into damaged blocks, and each store has its own
+pub record IsRestoredBesideSkips (store : Blocks) (number : ℕ) (job : JobMeaning) (other : Blocks) : Type 0 where
+  pub same_archive : archive_of other number job ≡ archive_of store number job
+  pub same_skips : is_over_limit other job ≡ false → skipped_cids other number job ≡ skipped_cids store number job
+  pub once_within : job.once ≡ true → is_over_limit other job ≡ false

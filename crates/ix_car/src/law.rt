@@ -7,6 +7,7 @@ ghost use Rattle.ix_car.specs.Laws.{GoodIsSound, OnceIsUncut, OnceIsWithin, Once
 ghost use Rattle.ix_car.specs.Laws.{OnceArchivesTheEnded, OnceBeginsTheEnded, OnceArchivesTheReached};
 ghost use Rattle.ix_car.specs.Laws.{FaithfulIsArchived, HasWholeArchive, HasBegunArchive, DifferenceIsTheRest, PlacesAreOfTheBase};
 ghost use Rattle.ix_car.specs.Laws.{DifferenceIsOfPairs, DifferenceThenBaseRestores, BaseThenDifferenceRestores};
+ghost use Rattle.ix_car.specs.Laws.{DifferenceThenBaseRestoresBesideSkips, BaseThenDifferenceRestoresBesideSkips};
 
 use ix_selector::law;
 use std::io::Write;
@@ -86,4 +87,19 @@ pub fn base_and_difference_restore()
     ensures pairs { DifferenceIsOfPairs }
     ensures difference_first { DifferenceThenBaseRestores }
     ensures base_first { BaseThenDifferenceRestores }
+{}
+
+/// States what a base and a difference restore of a job that skips blocks, if the base has no sound copy of
+/// any block that the job skips over the store, and the job is within its limit there.
+///
+/// Over the first copies in the difference followed by the base, its archive is the same, byte for byte.
+/// With link-visit-once the job is within its limit there too. If it is, it skips the same CIDs, in the
+/// same order, though a verdict may differ. The base followed by the difference does the same if the first
+/// copies in the base are all sound.
+///
+/// The base and the store have the same first copy under each CID for which both have a sound one, as in
+/// `base_and_difference_restore`.
+pub fn base_and_difference_restore_beside_skips()
+    ensures difference_first { DifferenceThenBaseRestoresBesideSkips }
+    ensures base_first { BaseThenDifferenceRestoresBesideSkips }
 {}

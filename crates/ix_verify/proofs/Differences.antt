@@ -18,12 +18,13 @@ use Rattle.ix_verdict.specs.Verdict.{is_sound}
 use Rattle.ix_car.specs.ArchiveMeaning.{ArchiveMeaning, HasArchived, calls_of}
 use Rattle.ix_car.specs.Faithful.{IsFaithful}
 use Rattle.ix_known.specs.Known.{knows, IsKnownIn}
-use Rattle.ix_car.specs.Restoring.{difference_pairs, AgreesWith, IsWithoutSkips, IsRestoredBy}
+use Rattle.ix_car.specs.Restoring.{difference_pairs, AgreesWith, IsWithoutSkips, IsRestoredBy, skipped_cids, SkipsOnlyUnknown, IsRestoredBesideSkips}
 use Rattle.ix_car.specs.Verified.{verified}
 use Rattle.ix_car.proofs.Archives.{archive-whole}
 use Rattle.ix_car.proofs.KnownBlocks.{places-of-base}
 use Rattle.ix_car.proofs.Restored.{pairs-bytes, difference-first, base-first}
-use Rattle.ix_verify.specs.Restored.{HasReadableDifference, blocks_after_all, AreReadAs, IsRestoredByFiles}
+use Rattle.ix_car.proofs.RestoredBesideSkips as beside_skips
+use Rattle.ix_verify.specs.Restored.{HasReadableDifference, blocks_after_all, AreReadAs, IsRestoredByFiles, IsRestoredByFilesBesideSkips}
 use Rattle.ix_verify.specs.Written.{sections_with}
 use Rattle.ix_verify.proofs.PairsAgain.{text_of, HasCid, pairs-cids, pairs-copies, file-roots, file-sections}
 use Rattle.ix_verify.proofs.WholeAgain.{first_of, first_of-none, first_of-twice, block_if, block-with}
@@ -130,7 +131,7 @@ module _ (store base : Blocks) (files : List (List ℕ)) (number : ℕ) (job : J
   known-same : known_by base ≡ known_by copies
   known-same = λ i. Some (λ c. knows-same c i)
 
-  module _ (readable : HasReadableDifference (known_by base) store number job) (agrees : AgreesWith base store) (done : IsWithoutSkips store number job) where
+  module _ (readable : HasReadableDifference (known_by base) store number job) (agrees : AgreesWith base store) where
     abbrev pairs : Blocks
     pairs = difference_pairs (known_by base) store number job
 
@@ -141,28 +142,61 @@ module _ (store base : Blocks) (files : List (List ℕ)) (number : ℕ) (job : J
         ∙ ap (with_first_of_each first) (difference-back (known_by base) store number job readable).1
         ∙ ap (λ (b : Blocks). Ok b) (sections-first first (sections_with (length (header_of job.roots)) pairs) ∙ ap (with_blocks first) (pairs-copies (length (header_of job.roots)) pairs))
 
+    -- so the difference and the files are read as these copies
+    difference-read : AreReadAs (difference_of (known_by base) store number job ∷ files) (first_copies (pairs ++ copies))
+    difference-read =
+        ap (λ r. r >>= (λ more. blocks_after_all more files)) (difference-added []) ∙ copies-added (with_blocks [] pairs) ∙ ap (λ (b : Blocks). Ok b) (blocks-both [] pairs copies)
+
+    -- and the files and the difference as these
+    files-read : AreReadAs (files ++ difference_of (known_by base) store number job ∷ []) (first_copies (copies ++ pairs))
+    files-read =
+        files-after [] files (difference_of (known_by base) store number job ∷ [])
+        ∙ ap (λ r. r >>= (λ more. blocks_after_all more (difference_of (known_by base) store number job ∷ []))) (copies-added [])
+        ∙ ap (λ r. r >>= (λ more. blocks_after_all more [])) (difference-added (first_copies copies))
+        ∙ ap (λ (b : Blocks). Ok b) (blocks-both [] copies pairs)
+
     agrees-same : AgreesWith copies store
     agrees-same c known sound = sym (block-same c) ∙ agrees c (knows-same c ∙ known) sound
 
-    -- the law `DifferenceThenFilesRestore`
-    pub difference-then_files : IsRestoredByFiles store number job (difference_of (known_by base) store number job ∷ files)
-    difference-then_files = (
-      first_copies (pairs ++ copies),
-      ap (λ r. r >>= (λ more. blocks_after_all more files)) (difference-added []) ∙ copies-added (with_blocks [] pairs) ∙ ap (λ (b : Blocks). Ok b) (blocks-both [] pairs copies),
-      subst (λ (k : Known). IsRestoredBy store number job (first_copies (difference_pairs k store number job ++ copies))) (sym known-same) (difference-first store copies number job agrees-same done),
-    )
+    module _ (done : IsWithoutSkips store number job) where
+      -- the law `DifferenceThenFilesRestore`
+      pub difference-then_files : IsRestoredByFiles store number job (difference_of (known_by base) store number job ∷ files)
+      difference-then_files = (
+        first_copies (pairs ++ copies),
+        difference-read,
+        subst (λ (k : Known). IsRestoredBy store number job (first_copies (difference_pairs k store number job ++ copies))) (sym known-same) (difference-first store copies number job agrees-same done),
+      )
 
-    -- the law `FilesThenDifferenceRestore`
-    pub files-then_difference : AreSoundCopies base → IsRestoredByFiles store number job (files ++ difference_of (known_by base) store number job ∷ [])
-    files-then_difference sound = (
-      first_copies (copies ++ pairs),
-      files-after [] files (difference_of (known_by base) store number job ∷ [])
-          ∙ ap (λ r. r >>= (λ more. blocks_after_all more (difference_of (known_by base) store number job ∷ []))) (copies-added [])
-          ∙ ap (λ r. r >>= (λ more. blocks_after_all more [])) (difference-added (first_copies copies))
-          ∙ ap (λ (b : Blocks). Ok b) (blocks-both [] copies pairs),
-      subst (λ (k : Known). IsRestoredBy store number job (first_copies (copies ++ difference_pairs k store number job))) (sym known-same)
-          (base-first store copies number job (subst AreSoundCopies base-copies sound) agrees-same done),
-    )
+      -- the law `FilesThenDifferenceRestore`
+      pub files-then_difference : AreSoundCopies base → IsRestoredByFiles store number job (files ++ difference_of (known_by base) store number job ∷ [])
+      files-then_difference sound = (
+        first_copies (copies ++ pairs),
+        files-read,
+        subst (λ (k : Known). IsRestoredBy store number job (first_copies (copies ++ difference_pairs k store number job))) (sym known-same)
+            (base-first store copies number job (subst AreSoundCopies base-copies sound) agrees-same done),
+      )
+
+    module _ (skips : SkipsOnlyUnknown base store number job) where
+      skips-same : SkipsOnlyUnknown copies store number job
+      skips-same = record { within = skips.within; unknown = subst (λ (known : List ℕ → Bool). All (λ c. known c ≡ false) (skipped_cids store number job)) (λ i. λ c. knows-same c i) skips.unknown }
+
+      -- the law `DifferenceThenFilesRestoreBesideSkips`
+      pub difference-beside_skips : IsRestoredByFilesBesideSkips store number job (difference_of (known_by base) store number job ∷ files)
+      difference-beside_skips = (
+        first_copies (pairs ++ copies),
+        difference-read,
+        subst (λ (k : Known). IsRestoredBesideSkips store number job (first_copies (difference_pairs k store number job ++ copies))) (sym known-same)
+            (beside_skips.difference-first store copies number job agrees-same skips-same),
+      )
+
+      -- the law `FilesThenDifferenceRestoreBesideSkips`
+      pub files-beside_skips : AreSoundCopies base → IsRestoredByFilesBesideSkips store number job (files ++ difference_of (known_by base) store number job ∷ [])
+      files-beside_skips sound = (
+        first_copies (copies ++ pairs),
+        files-read,
+        subst (λ (k : Known). IsRestoredBesideSkips store number job (first_copies (copies ++ difference_pairs k store number job))) (sym known-same)
+            (beside_skips.base-first store copies number job agrees-same skips-same (subst AreSoundCopies base-copies sound)),
+      )
 
 -- ---- what was written
 

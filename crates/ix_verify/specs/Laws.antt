@@ -20,14 +20,14 @@ use Rattle.ix_car.specs.ArchiveMeaning.{ArchiveMeaning, HasArchived, calls_of}
 use Rattle.ix_car.specs.Faithful.{IsFaithful}
 use Rattle.ix_known.specs.Known.{IsKnownIn}
 use Rattle.ix_car.specs.Report.{skips_of}
-use Rattle.ix_car.specs.Restoring.{difference_pairs, AgreesWith, IsWithoutSkips}
+use Rattle.ix_car.specs.Restoring.{difference_pairs, AgreesWith, IsWithoutSkips, SkipsOnlyUnknown}
 use Rattle.ix_car.specs.Verified.{verified, judged_visits}
 use Rattle.ix_sections.specs.Writing.{header_of}
 use Rattle.ix_sections.specs.Sections.{SectionMeaning, section_list, roots_of, with_sections}
 use Rattle.ix_verify.specs.Judged.{section_verdict, IsSoundSection}
 use Rattle.ix_sections.specs.declared.files.loader.Copies.TheVariants.{First, Sound as FirstSound}
 use Rattle.ix_verify.specs.Found.{with_files, copies_in, store_of, later_of, job_below, verified_job, HasSoundSections, IsSoundFile, IsSoundFileFor}
-use Rattle.ix_verify.specs.Restored.{HasReadableDifference, AreReadAs, IsRestoredByFiles}
+use Rattle.ix_verify.specs.Restored.{HasReadableDifference, AreReadAs, IsRestoredByFiles, IsRestoredByFilesBesideSkips}
 use Rattle.ix_verify.specs.Written.{sections_with, written_sections, IsArchivable, IsJudged, IsSoundByItself}
 
 -- where the verdict on a CID is Sound, that on the CID and the store's block is
@@ -138,6 +138,20 @@ FilesThenDifferenceRestore =
     → HasReadableDifference (known_by base) store number job → AgreesWith base store → IsWithoutSkips store number job
     → IsRestoredByFiles store number job (files ++ difference_of (known_by base) store number job ∷ [])
 
+-- the same of a job that skips only what the base doesn't know, beside its skips
+abbrev pub DifferenceThenFilesRestoreBesideSkips : Type 0
+DifferenceThenFilesRestoreBesideSkips =
+    (store base : Blocks) (files : List (List ℕ)) (number : ℕ) (job : JobMeaning) → AreReadAs files base
+    → HasReadableDifference (known_by base) store number job → AgreesWith base store → SkipsOnlyUnknown base store number job
+    → IsRestoredByFilesBesideSkips store number job (difference_of (known_by base) store number job ∷ files)
+
+-- with the base's files first too
+abbrev pub FilesThenDifferenceRestoreBesideSkips : Type 0
+FilesThenDifferenceRestoreBesideSkips =
+    (store base : Blocks) (files : List (List ℕ)) (number : ℕ) (job : JobMeaning) → AreReadAs files base → AreSoundCopies base
+    → HasReadableDifference (known_by base) store number job → AgreesWith base store → SkipsOnlyUnknown base store number job
+    → IsRestoredByFilesBesideSkips store number job (files ++ difference_of (known_by base) store number job ∷ [])
+
 -- what an archive that leaves out the blocks of a base, by their positions, has written at Done is the job's difference from it
 abbrev pub WritesTheDifference : {W : Type 0} → (W → Option (List ℕ)) → Type 0
 WritesTheDifference {W} told =
@@ -152,3 +166,11 @@ WrittenThenFilesRestore {W} told =
     → HasArchived told a (known_at store (Some places)) store job (Some []) → IsFaithful store number job Done (calls_of a)
     → AreReadAs files base → HasReadableDifference (known_by base) store number job → AgreesWith base store → IsWithoutSkips store number job
     → (written : List ℕ) × (told a.writer ≡ Some written) × IsRestoredByFiles store number job (written ∷ files)
+
+-- the same of a job that skips only what the base doesn't know, beside its skips
+abbrev pub WrittenThenFilesRestoreBesideSkips : {W : Type 0} → (W → Option (List ℕ)) → Type 0
+WrittenThenFilesRestoreBesideSkips {W} told =
+    (a : ArchiveMeaning W) (store base : Blocks) (files : List (List ℕ)) (places : PlaceSet) (number : ℕ) (job : JobMeaning) → IsKnownIn store base places
+    → HasArchived told a (known_at store (Some places)) store job (Some []) → IsFaithful store number job Done (calls_of a)
+    → AreReadAs files base → HasReadableDifference (known_by base) store number job → AgreesWith base store → SkipsOnlyUnknown base store number job
+    → (written : List ℕ) × (told a.writer ≡ Some written) × IsRestoredByFilesBesideSkips store number job (written ∷ files)

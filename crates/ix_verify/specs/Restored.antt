@@ -5,7 +5,7 @@ use Rattle.ix_walk.specs.JobMeaning.{JobMeaning}
 use Rattle.ix_sections.specs.Reading.{Fault, ◌>>=◌, blocks_after}
 use Rattle.ix_car.specs.Archive.{Known}
 use Rattle.ix_car.specs.Verified.{verified}
-use Rattle.ix_car.specs.Restoring.{IsRestoredBy}
+use Rattle.ix_car.specs.Restoring.{IsRestoredBy, IsRestoredBesideSkips}
 use Rattle.ix_verify.specs.Written.{IsArchivableWithout}
 
 -- the difference of a job can be read back
@@ -24,3 +24,7 @@ AreReadAs files store = blocks_after_all [] files ≡ Ok store
 -- files are read as a store over which the job is within its limit and skips nothing, and its archive is the same, byte for byte
 abbrev pub IsRestoredByFiles : Blocks → ℕ → JobMeaning → List (List ℕ) → Type 0
 IsRestoredByFiles store number job files = (other : Blocks) × AreReadAs files other × IsRestoredBy store number job other
+
+-- files are read as a store over which the archive of a job is the same, byte for byte, and so are its skipped CIDs
+abbrev pub IsRestoredByFilesBesideSkips : Blocks → ℕ → JobMeaning → List (List ℕ) → Type 0
+IsRestoredByFilesBesideSkips store number job files = (other : Blocks) × AreReadAs files other × IsRestoredBesideSkips store number job other

@@ -6,7 +6,8 @@ ghost use Rattle.ix_verify.specs.Laws.{RootsAreReadBack, SectionsAreReadBack, Wr
 ghost use Rattle.ix_verify.specs.Laws.{DeliveriesHaveSoundSections, JobsHaveSoundSections, WholeArchivesAreSound, SelectedArchivesAreSound};
 ghost use Rattle.ix_verify.specs.Laws.{FilesAreEndToEnd, SoundCopiesAreTheFirst, DifferenceIsReadBack};
 ghost use Rattle.ix_verify.specs.Laws.{DifferenceThenFilesRestore, FilesThenDifferenceRestore};
-ghost use Rattle.ix_verify.specs.Laws.{WritesTheDifference, WrittenThenFilesRestore};
+ghost use Rattle.ix_verify.specs.Laws.{DifferenceThenFilesRestoreBesideSkips, FilesThenDifferenceRestoreBesideSkips};
+ghost use Rattle.ix_verify.specs.Laws.{WritesTheDifference, WrittenThenFilesRestore, WrittenThenFilesRestoreBesideSkips};
 
 use std::io::Write;
 
@@ -83,12 +84,28 @@ pub fn base_files_and_difference_restore()
     ensures base_first { FilesThenDifferenceRestore }
 {}
 
+/// States what the files of a base and the file of a difference restore of a job that skips blocks, if the
+/// base has no sound block under any CID that the job skips over the store, and the job is within its
+/// limit there.
+///
+/// Over the store that is read from the difference followed by the base's files, its archive is the same,
+/// byte for byte. With link-visit-once the job is within its limit there too. If it is, it skips the same
+/// CIDs, in the same order, though a verdict may differ. The base's files followed by the difference do the
+/// same if all blocks of the base are sound. The other premises are those of
+/// `base_files_and_difference_restore`.
+pub fn base_files_and_difference_restore_beside_skips()
+    ensures difference_first { DifferenceThenFilesRestoreBesideSkips }
+    ensures base_first { FilesThenDifferenceRestoreBesideSkips }
+{}
+
 /// States what an archive's writer has in the end, if it had no bytes at first and the blocks of a base
 /// were left out: an archive whose guarantee held for a store, a job, and the positions of these blocks,
 /// as `known_of` returns them, has written the job's difference from the base, if its calls are
 /// faithful to the job and it was done. If the job skips nothing, a file of what was written restores it,
-/// followed by the base's files.
+/// followed by the base's files. If it skips only what the base doesn't know, both together restore its
+/// archive.
 pub fn written_difference_restores<W: Write>()
     ensures written { WritesTheDifference W.contents }
     ensures restores { WrittenThenFilesRestore W.contents }
+    ensures restores_beside_skips { WrittenThenFilesRestoreBesideSkips W.contents }
 {}
