@@ -179,12 +179,20 @@ impl Failure {
         // If standard error can't be written, there is no one to report to.
         let _ = match self {
             Failure::Usage(error) => error.print(rt),
-            _ => match self.text(rt.alloc(), causes) {
+            _ => match self.text_or_line(rt.alloc(), causes) {
                 Ok(text) => rt.eprintln(text.as_str()),
                 Err(_) => rt.eprintln("memory"),
             },
         };
         self.status()
+    }
+
+    // Returns what is printed of a failure. If memory runs out for its cause, the line stands without it.
+    fn text_or_line(&self, alloc: Global, causes: Causes) -> Result<String, AllocError> {
+        match self.text(alloc, causes) {
+            Ok(text) => Ok(text),
+            Err(_) => self.line(alloc),
+        }
     }
 
     // Returns the line of a failure, and its cause as it is asked for.

@@ -103,14 +103,10 @@ impl<'a> Expansions<'a> {
         })
     }
 
-    /// Returns how many expansions it has, each of a block and a residual.
+    /// Returns how many expansions it has, each of a block and a residual. If it has none, a walk is faster
+    /// without it.
     pub fn len(&self) -> usize {
         self.pairs.len()
-    }
-
-    /// Returns whether it has no expansion: then a walk is faster without it.
-    pub fn is_empty(&self) -> bool {
-        self.pairs.is_empty()
     }
 
     /// The store.

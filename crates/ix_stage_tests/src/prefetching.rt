@@ -167,24 +167,32 @@ fn prefetched<R: Threads + Sync>(
     alloc: Global,
     store: &Store,
     job: &Job,
-) -> Result<String, AllocError> {
-    match prefetch(rt, alloc, store, job, 4, ANY_BYTES) {
+    most_bytes: usize,
+) -> Result<Option<(usize, String, bool)>, AllocError> {
+    match prefetch(rt, alloc, store, job, 4, most_bytes) {
         Some(table) => {
-            let count = table.len();
             let visits = tabled(alloc, &table)?;
             let same = visits == walked(alloc, store, job)?;
-            format!(in alloc; "{count} / {visits}{same}")
+            Ok(Some((table.len(), visits, same)))
         }
+        None => Ok(None),
+    }
+}
+
+// That as a text.
+fn told<R: Threads + Sync>(
+    rt: &R,
+    alloc: Global,
+    store: &Store,
+    job: &Job,
+) -> Result<String, AllocError> {
+    match prefetched(rt, alloc, store, job, ANY_BYTES)? {
+        Some((count, visits, same)) => format!(in alloc; "{count} / {visits}{same}"),
         None => String::from_str(alloc, "none"),
     }
 }
 
-fn spaces(text: &str) -> usize {
-    text.as_bytes().iter().filter(|b| **b == b' ').count()
-}
-
-// How many expansions the table of a job has, how many items a walk over it returns, and whether a walk
-// has the same.
+// The same with the number of the items in place of the visits.
 fn counted<R: Threads + Sync>(
     rt: &R,
     alloc: Global,
@@ -192,16 +200,17 @@ fn counted<R: Threads + Sync>(
     job: &Job,
     most_bytes: usize,
 ) -> Result<String, AllocError> {
-    match prefetch(rt, alloc, store, job, 4, most_bytes) {
-        Some(table) => {
-            let count = table.len();
-            let visits = tabled(alloc, &table)?;
+    match prefetched(rt, alloc, store, job, most_bytes)? {
+        Some((count, visits, same)) => {
             let items = spaces(visits.as_str());
-            let same = visits == walked(alloc, store, job)?;
             format!(in alloc; "{count} {items} {same}")
         }
         None => String::from_str(alloc, "none"),
     }
+}
+
+fn spaces(text: &str) -> usize {
+    text.as_bytes().iter().filter(|b| **b == b' ').count()
 }
 
 // The same of a job of everything below a root, at every link and with link-visit-once.
@@ -227,10 +236,10 @@ fn a_tree(rt: HostRuntime) -> Result<(), Fail> {
     let alloc = rt.alloc();
     let store = tree_of(alloc, NODE_BLOCK)?;
     let job = job_of(alloc, ALL, cid_of(alloc, TREE)?, 10)?;
-    let every = prefetched(&rt, alloc, &store, &job)?;
+    let every = told(&rt, alloc, &store, &job)?;
     assert_eq!(rt; every.as_str(), "2 / 0.0 1.1 2.2 1.1 2.2 1.2 1.- true");
     let job = job.links_once();
-    let once = prefetched(&rt, alloc, &store, &job)?;
+    let once = told(&rt, alloc, &store, &job)?;
     assert_eq!(rt; once.as_str(), "2 / 0.0 1.1 2.2 1.1 1.2 1.- true");
     Ok(())
 }
@@ -240,10 +249,10 @@ fn a_tree_with_a_damaged_block(rt: HostRuntime) -> Result<(), Fail> {
     let alloc = rt.alloc();
     let store = tree_of(alloc, OTHER_BLOCK)?;
     let job = job_of(alloc, ALL, cid_of(alloc, TREE)?, 10)?;
-    let every = prefetched(&rt, alloc, &store, &job)?;
+    let every = told(&rt, alloc, &store, &job)?;
     assert_eq!(rt; every.as_str(), "2 / 0.0 1.1 2.- 1.1 2.- 1.2 1.- true");
     let job = job.links_once();
-    let once = prefetched(&rt, alloc, &store, &job)?;
+    let once = told(&rt, alloc, &store, &job)?;
     assert_eq!(rt; once.as_str(), "2 / 0.0 1.1 1.1 1.2 1.- true");
     Ok(())
 }
@@ -254,10 +263,10 @@ fn a_tree_with_several_residuals(rt: HostRuntime) -> Result<(), Fail> {
     let alloc = rt.alloc();
     let store = tree_of(alloc, NODE_BLOCK)?;
     let job = job_of(alloc, NEAR, cid_of(alloc, TREE)?, 10)?;
-    let every = prefetched(&rt, alloc, &store, &job)?;
+    let every = told(&rt, alloc, &store, &job)?;
     assert_eq!(rt; every.as_str(), "2 / 0.0 1.1 2.2 1.1 2.2 1.2 1.- true");
     let job = job.links_once();
-    let once = prefetched(&rt, alloc, &store, &job)?;
+    let once = told(&rt, alloc, &store, &job)?;
     assert_eq!(rt; once.as_str(), "2 / 0.0 1.1 2.2 1.1 1.2 1.- true");
     Ok(())
 }

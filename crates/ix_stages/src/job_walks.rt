@@ -110,7 +110,7 @@ impl<'a> JobWalks<'a> {
         ensures { IfOk result (λ w. w ≡ whole_walk self.now.store number job.now) }
     {
         let kind = match self.table_of(number) {
-            Some(table) if !table.is_empty() => {
+            Some(table) if table.len() > 0 => {
                 WalkKind::Table(TableWalk::new(alloc, table, number)?)
             }
             _ => WalkKind::Blocks(Walk::new(alloc, self.store, job, number)?),
