@@ -118,7 +118,7 @@ block-passes (e ∷ es) c b all h = by (block-passes es c b (All-tail is_passing
   by later false isnt at = later at
 
 -- a pair of another CID isn't found
-pair-other : (c e : List ℕ) (o : Option (List ℕ)) (ps : Blocks) → bytes_eq e c ≡ false → block_of (pair_with e o ++ ps) c ≡ block_of ps c
+pub pair-other : (c e : List ℕ) (o : Option (List ℕ)) (ps : Blocks) → bytes_eq e c ≡ false → block_of (pair_with e o ++ ps) c ≡ block_of ps c
 pair-other c e None ps h = refl
 pair-other c e (Some x) ps h = ap (λ v. if v then Some x else block_of ps c) h
 

@@ -43,7 +43,7 @@ pub record SkipsOnlyUnknown (base store : Blocks) (number : ℕ) (job : JobMeani
 
 -- over another store, the archive of the job is the same, byte for byte. If the job is within its limit there, it skips the same
 -- CIDs, in the same order; a verdict may be another one, as Damaged for Missing. With link-visit-once it is within its limit; at
--- every link it need not be, since it goes into damaged blocks, and each store has its own
+-- every link it need not be, since it expands damaged blocks, and each store has its own
 pub record IsRestoredBesideSkips (store : Blocks) (number : ℕ) (job : JobMeaning) (other : Blocks) : Type 0 where
   pub same_archive : archive_of other number job ≡ archive_of store number job
   pub same_skips : is_over_limit other job ≡ false → skipped_cids other number job ≡ skipped_cids store number job

@@ -5,9 +5,9 @@ ghost use Rattle.ix_sections.specs.Payload.{IsWithin};
 use crate::stores::text_of_fault;
 use crate::walks::job_of_words;
 use anyhow::{Context, Error, Result, bail, ensure};
-use ix_known::Base;
 use ix_case_formats::cids::cid_of;
 use ix_case_formats::texts::{bytes_of_hex, two_words};
+use ix_known::Base;
 use ix_own_archive::{
     Counts, ExpectedHeader, ReceiveFault, StreamFault, StreamLimits, StreamReceiver, check_archive,
 };

@@ -1,6 +1,7 @@
 //! Tests of exports, to sinks, by checks and through gates of a test's own; of runs, by a check and
 //! to writers of a test's own; of exports whose threads can't all be started; of the lines of
-//! errors; of archives of which each byte is changed; and of the paths of visits.
+//! errors; of archives of which each byte is changed; of the paths of visits; and of residuals that
+//! outlive their selector.
 //!
 //! It has no public call and no contract: its tests are its results. An export in a test looks like this:
 //!
@@ -30,6 +31,8 @@ mod layers;
 mod own_archives;
 #[cfg(test)]
 mod refusals;
+#[cfg(test)]
+mod residuals;
 #[cfg(test)]
 mod runs;
 #[cfg(test)]

@@ -4,16 +4,12 @@ use Rattle.std.specs.Prelude.{Option, Some, None, is_some, if◌then◌else◌, 
 use Rattle.std.proofs.lemmas.Slice.Eq.{bytes_eq-Decides}
 use Rattle.ix_store.specs.Store.{Blocks, block_of}
 use Rattle.ix_car.specs.Restoring.{pair_with}
+use Rattle.ix_car.proofs.Restored.{pair-other}
 use Rattle.ix_walk.proofs.Firsts.{In}
 
 -- the pair of a CID in a store, if it has a block
 abbrev pub pair_in : Blocks → List ℕ → Blocks
 pair_in store c = pair_with c (block_of store c)
-
--- the pair of another CID isn't found
-pair-other : (c e : List ℕ) (o : Option (List ℕ)) (ps : Blocks) → bytes_eq e c ≡ false → block_of (pair_with e o ++ ps) c ≡ block_of ps c
-pair-other c e None ps h = refl
-pair-other c e (Some x) ps h = ap (λ v. if v then Some x else block_of ps c) h
 
 -- the pair of the same CID is found, if there is one
 pair-here : (c : List ℕ) (o : Option (List ℕ)) (ps : Blocks) → is_some o ≡ true → block_of (pair_with c o ++ ps) c ≡ o

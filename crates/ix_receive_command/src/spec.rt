@@ -2,7 +2,8 @@
 
 use ix_load::{SCOPE, SELECTOR, SELECTOR_HEX};
 use ix_options::{
-    ALLOW_MISSING, ArgKind, ArgSpec, CommandSpec, JSON, NO_SYNC, PREFER_SOUND, PROGRESS, QUIET, SYNC,
+    ALLOW_MISSING, ArgKind, ArgSpec, CommandSpec, JSON, NO_SYNC, PREFER_SOUND, PROGRESS, QUIET,
+    SYNC,
 };
 
 const ABOUT: &str = "Check an archive against what was asked for, as it arrives";
