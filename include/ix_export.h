@@ -140,8 +140,8 @@ uint32_t ix_job_once(ix_handle *job);
  * archive. Visits and skips are as without a base, and ix_result_known says how many blocks are left out. The job shares the
  * base, whose handle may be freed; a second call replaces the base. Each export looks up every block of its store in the base,
  * and hashes those that it finds there, each at most once for a base. A receiver that reads the archive into a store and then
- * the file of the base has what restores the whole archive, if the job is done and skips nothing. IX_DONE, IX_MEMORY,
- * IX_HANDLE. */
+ * the file of the base has what restores the whole archive, if the job is done and the base has no sound block under a CID
+ * that it skips. IX_DONE, IX_MEMORY, IX_HANDLE. */
 uint32_t ix_job_without(ix_handle *job, ix_handle *base);
 
 /* Fills a handle with a text: the hex of the selector of a JSON text, which is the last field of a job's line.

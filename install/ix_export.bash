@@ -58,7 +58,7 @@ _ix_export() {
     show) it='--blocks --pretty --max-input --carv2 --prefer-sound --json --progress --quiet -q --help -h' ;;
     inspect) it='--list --cids --max-input --carv2 --json --quiet -q --help -h' ;;
     verify) it='--with --prefer-sound --allow-missing --selector --selector-hex --path --scope --jobs --part --exact --blocks-only --all --paths --verifiers --max-input --carv2 --json --progress --quiet -q --help -h' ;;
-    receive) it='--root --scope --selector --selector-hex --limit --with --allow-missing --any-header --out -o --max-block --whole --sync --no-sync --paths --json --progress --quiet -q --verbose -v --help -h' ;;
+    receive) it='--root --scope --selector --selector-hex --limit --with --prefer-sound --allow-missing --any-header --out -o --max-block --whole --sync --no-sync --paths --json --progress --quiet -q --verbose -v --help -h' ;;
     *) it='get jobs job check-jobs selector root block show inspect verify receive --help -h --version -V' ;;
   esac
   case $command in

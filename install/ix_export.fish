@@ -161,6 +161,7 @@ complete -c ix_export -n '__fish_seen_subcommand_from receive' -l selector -x -d
 complete -c ix_export -n '__fish_seen_subcommand_from receive' -l selector-hex -x -d 'IPLD selector as DAG-CBOR in hex'
 complete -c ix_export -n '__fish_seen_subcommand_from receive' -l limit -x -d 'Link budget, 1 to 4294967295'
 complete -c ix_export -n '__fish_seen_subcommand_from receive' -l with -r -F -d 'File whose sound blocks are here already'
+complete -c ix_export -n '__fish_seen_subcommand_from receive' -l prefer-sound -d 'Use the first sound copy of a block, if any is'
 complete -c ix_export -n '__fish_seen_subcommand_from receive' -l allow-missing -x -a 'raw dag-cbor all' -d 'Blocks that may be missing: raw, dag-cbor or all'
 complete -c ix_export -n '__fish_seen_subcommand_from receive' -l any-header -d 'Accept a header with other roots'
 complete -c ix_export -n '__fish_seen_subcommand_from receive' -s o -l out -r -F -d 'Archive to write'
