@@ -141,7 +141,7 @@ expect_bytes out/b.car "$one_archive"
 begin 'an archive that finds its name taken: its job ends with write, the others have their names'
 write_blocks "$one_blocks" "$(section "$self_cid" "81$(link "$self_cid")")"
 write_jobs "a $(text "$self_cid") 1000000 $all" "b $one_job"
-(until [ -e out/b.car.part ]; do :; done; mkdir out/a.car) &
+(until [ -e out/b.car.part ] || [ -e out/b.car ]; do :; done; mkdir out/a.car) &
 run_jobs
 wait
 expect 4 "a write visits=1000000 kept=1 sections=0 bytes=59
