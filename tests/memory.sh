@@ -212,6 +212,15 @@ for ((request = last - 15; request < last - 3; request++)); do
   [ "$status" = 2 ] || fail 'another status'
   expect_text 'the error' 'jobs: root at line 1' "$(sed -n 1p stderr)"
 done
+# With --verbose the last request is for both lines together: without it the first is printed alone.
+words+=(--verbose)
+run 0 0 "${words[@]}"
+expect_text 'the error' 'jobs: root at line 1' "$(sed -n 1p stderr)"
+expect_text 'how many lines' 2 "$(wc -l <stderr)"
+read -r last _ <counts
+run "$last" 0 "${words[@]}"
+[ "$status" = 2 ] || fail 'another status'
+expect_text 'the error' 'jobs: root at line 1' "$(cat stderr)"
 
 # The command `get` over the same blocks: what is skipped there is no root, so where it ends with 3 the archive is whole.
 wanted=$top/examples/expected/whole.car
